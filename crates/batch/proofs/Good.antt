@@ -1,0 +1,113 @@
+-- Laws of a good record and of the first refusal that applies. Callers cite these and not the text of the definitions, so that
+-- a limit or a clause can change behind its name. Assumes nothing.
+use mathlib.Core.Path.{_≡_, refl, sym, ap, _∙_}
+use mathlib.Core.Bool.{Bool, true, false, not, _&&_, false≢true, and-eq-true-iff}
+use Prim.Native.Nat.{ℕ, _≤_, _<_}
+use lib.Dec.{leb, ltb}
+use lib.IntN.{ℤ, pos, negsuc}
+use lib.Signed.{leZ, ltZ}
+use borrow.Author.Tests.{eq-eqb, ne-eqb, le-leb, lt-leb, ltb-true, ltb-false}
+use Rattle.refusal.specs.declared.Refusal.{Refusal}
+use Rattle.refusal.specs.declared.Refusal.the-variants.{BatchNumberZero, TemperatureOutOfRange, NameTooLong, BadName}
+use Rattle.batch.specs.declared.BatchRecord.{BatchRecord}
+use Rattle.batch.specs.declared.Verdict.{Verdict}
+use Rattle.batch.specs.declared.Verdict.the-variants.{Good, Refused}
+use Rattle.batch.specs.Good.{coldest, hottest, nameLimit, batchGood, tempGood, nameLengthGood, nameGood}
+use Rattle.batch.specs.Good.{goodRecord, verdictOf, GoodExactly, GoodNumber}
+
+-- by cases on a test, each with the test's outcome in hand
+pub by-test : {A : Type 0} (b : Bool) → (b ≡ true → A) → (b ≡ false → A) → A
+by-test true f g = f refl
+by-test false f g = g refl
+
+-- a `≤` of integers is the failure of the other `<`
+leb-not-ltb : (a b : ℕ) → leb a b ≡ not (ltb b a)
+leb-not-ltb a b =
+    by-test (ltb b a) (λ e. rw (e, lt-leb a b (ltb-true b a e))) (λ e. rw (e, le-leb a b (ltb-false b a e)))
+
+leZ-not-ltZ : (a b : ℤ) → leZ a b ≡ not (ltZ b a)
+leZ-not-ltZ (pos a) (pos b) = leb-not-ltb a b
+leZ-not-ltZ (pos a) (negsuc b) = refl
+leZ-not-ltZ (negsuc a) (pos b) = refl
+leZ-not-ltZ (negsuc a) (negsuc b) = leb-not-ltb b a
+
+-- whether a verdict is the good one
+abbrev pub accepted : Verdict → Bool
+accepted Good = true
+accepted (Refused x) = false
+
+module _ (r : BatchRecord) where
+  -- each clause by its tests
+  pub batch-zero : r .batch .0 ≡ 0 → batchGood r ≡ false
+  unfolding batchGood
+  batch-zero e = rw (eq-eqb (r .batch .0) 0 e)
+
+  pub batch-not-zero : (r .batch .0 ≡ 0 → ⊥) → batchGood r ≡ true
+  unfolding batchGood
+  batch-not-zero ne = rw (ne-eqb (r .batch .0) 0 ne)
+
+  pub temp-by-tests : {cold hot : Bool} → ltZ (r .temperature) coldest ≡ cold → ltZ hottest (r .temperature) ≡ hot
+      → tempGood r ≡ not cold && not hot
+  unfolding tempGood
+  temp-by-tests c h = rw (leZ-not-ltZ coldest (r .temperature), leZ-not-ltZ (r .temperature) hottest, c, h)
+
+  pub name-short : r .«name_length» ≤ nameLimit → nameLengthGood r ≡ true
+  unfolding nameLengthGood
+  name-short h = le-leb (r .«name_length») nameLimit h
+
+  pub name-long : nameLimit < r .«name_length» → nameLengthGood r ≡ false
+  unfolding nameLengthGood
+  name-long h = lt-leb (r .«name_length») nameLimit h
+
+  -- the first refusal that applies, given the clauses before it
+  pub verdict-batch : batchGood r ≡ false → verdictOf r ≡ Refused BatchNumberZero
+  unfolding verdictOf
+  verdict-batch b = rw b
+
+  pub verdict-temp : batchGood r ≡ true → tempGood r ≡ false → verdictOf r ≡ Refused TemperatureOutOfRange
+  unfolding verdictOf
+  verdict-temp b t = rw (b, t)
+
+  pub verdict-length : batchGood r ≡ true → tempGood r ≡ true → nameLengthGood r ≡ false → verdictOf r ≡ Refused NameTooLong
+  unfolding verdictOf
+  verdict-length b t l = rw (b, t, l)
+
+  pub verdict-name : batchGood r ≡ true → tempGood r ≡ true → nameLengthGood r ≡ true → nameGood r ≡ false
+      → verdictOf r ≡ Refused BadName
+  unfolding verdictOf
+  verdict-name b t l n = rw (b, t, l, n)
+
+  pub verdict-good : batchGood r ≡ true → tempGood r ≡ true → nameLengthGood r ≡ true → nameGood r ≡ true
+      → verdictOf r ≡ Good
+  unfolding verdictOf
+  verdict-good b t l n = rw (b, t, l, n)
+
+  -- a good record passes each clause
+  pub good-clauses : goodRecord r ≡ true
+      → (batchGood r ≡ true) × (tempGood r ≡ true) × (nameLengthGood r ≡ true) × (nameGood r ≡ true)
+  unfolding goodRecord
+  good-clauses e =
+      let n = and-eq-true-iff (batchGood r && tempGood r && nameLengthGood r) (nameGood r) .0 e in
+      let l = and-eq-true-iff (batchGood r && tempGood r) (nameLengthGood r) .0 (n .0) in
+      let t = and-eq-true-iff (batchGood r) (tempGood r) .0 (l .0) in
+      (t .0, t .1, l .1, n .1)
+
+  pub goodRecord-accepted : goodRecord r ≡ accepted (verdictOf r)
+  unfolding goodRecord verdictOf
+  goodRecord-accepted =
+      by-test (batchGood r) (λ b.
+      by-test (tempGood r) (λ t.
+      by-test (nameLengthGood r) (λ l.
+      by-test (nameGood r) (λ n. rw (b, t, l, n)) (λ n. rw (b, t, l, n)))
+      (λ l. rw (b, t, l))) (λ t. rw (b, t))) (λ b. rw b)
+
+accepted-good : (v : Verdict) → accepted v ≡ true → v ≡ Good
+accepted-good Good e = refl
+accepted-good (Refused x) e = absurd (false≢true e)
+
+pub good-exactly : GoodExactly
+good-exactly r =
+    (λ e. accepted-good (verdictOf r) (sym (goodRecord-accepted r) ∙ e), λ e. goodRecord-accepted r ∙ ap accepted e)
+
+pub good-number : GoodNumber
+good-number r e z = false≢true (sym (batch-zero r z) ∙ good-clauses r e .0)

@@ -1,0 +1,4 @@
+pub mod Name
+pub mod Good
+pub mod Blank
+pub mod Same

@@ -1,0 +1,85 @@
+-- What makes a batch record good, clause by clause as document 01 has it, and the first refusal that applies to a record.
+-- Assumes nothing.
+use mathlib.Core.Path.{_≡_}
+use mathlib.Core.Logic.{_↔_}
+use mathlib.Core.Bool.{Bool, true, false, not, _&&_}
+use mathlib.Core.List.{List, [], _∷_}
+use Prim.Native.Nat.{ℕ}
+use lib.Dec.{eqb, leb}
+use lib.IntN.{ℤ, pos, negℤ}
+use lib.Signed.{leZ}
+use lib.ListN.{take, drop}
+use Rattle.refusal.specs.declared.Refusal.{Refusal}
+use Rattle.refusal.specs.declared.Refusal.the-variants.{BatchNumberZero, TemperatureOutOfRange, NameTooLong, BadName}
+use Rattle.batch.specs.declared.BatchRecord.{BatchRecord}
+use Rattle.batch.specs.declared.Verdict.{Verdict}
+use Rattle.batch.specs.declared.Verdict.the-variants.{Good, Refused}
+
+-- the limits: temperatures in tenths of a degree Celsius, a name's length, and the bytes that a name is made of
+abbrev pub coldest : ℤ
+coldest = negℤ (pos 400)
+
+abbrev pub hottest : ℤ
+hottest = pos 1200
+
+abbrev pub nameLimit : ℕ
+nameLimit = 32
+
+abbrev pub firstCharacter : ℕ
+firstCharacter = 0x20
+
+abbrev pub lastCharacter : ℕ
+lastCharacter = 0x7E
+
+-- the test f passes at every element
+abbrev pub every : (ℕ → Bool) → List ℕ → Bool
+every f [] = true
+every f (x ∷ xs) = f x && every f xs
+
+abbrev pub isZero : ℕ → Bool
+isZero n = eqb n 0
+
+abbrev pub isCharacter : ℕ → Bool
+isCharacter b = leb firstCharacter b && leb b lastCharacter
+
+-- the first `n` cells are characters, the rest are 0
+unfoldable pub nameCellsGood : ℕ → List ℕ → Bool
+nameCellsGood n cells = every isCharacter (take n cells) && every isZero (drop n cells)
+
+-- the four clauses of a good record
+unfoldable pub batchGood : BatchRecord → Bool
+batchGood r = not (isZero (r .batch .0))
+
+unfoldable pub tempGood : BatchRecord → Bool
+tempGood r = leZ coldest (r .temperature) && leZ (r .temperature) hottest
+
+unfoldable pub nameLengthGood : BatchRecord → Bool
+nameLengthGood r = leb (r .«name_length») nameLimit
+
+unfoldable pub nameGood : BatchRecord → Bool
+nameGood r = nameCellsGood (r .«name_length») (r .name)
+
+unfoldable pub goodRecord : BatchRecord → Bool
+goodRecord r = batchGood r && tempGood r && nameLengthGood r && nameGood r
+
+-- the refusal where the clause fails, else what the later clauses say
+abbrev pub unless : Bool → Refusal → Verdict → Verdict
+unless true refusal later = later
+unless false refusal later = Refused refusal
+
+-- the first refusal that applies: 11, 12, 13, 14
+unfoldable pub verdictOf : BatchRecord → Verdict
+verdictOf r =
+    unless (batchGood r) BatchNumberZero
+    (unless (tempGood r) TemperatureOutOfRange
+    (unless (nameLengthGood r) NameTooLong
+    (unless (nameGood r) BadName
+    Good)))
+
+-- a record is good exactly when no refusal applies
+abbrev pub GoodExactly : Type 0
+GoodExactly = (r : BatchRecord) → (goodRecord r ≡ true) ↔ (verdictOf r ≡ Good)
+
+-- a good record has a batch number
+abbrev pub GoodNumber : Type 0
+GoodNumber = (r : BatchRecord) → goodRecord r ≡ true → r .batch .0 ≡ 0 → ⊥

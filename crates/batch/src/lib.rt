@@ -1,0 +1,147 @@
+// The batch record that a channel carries, what makes one good, and when two are of the same batch.
+// Each function answers what its definition in specs/ says, of every value: a record is good or is refused
+// with the first refusal that applies. The limits of document 01 are constants of the record; a name has 32 cells.
+use refusal::Refusal;
+ghost use mathlib.Core.Path.{_≡_};
+ghost use Rattle.batch.specs.Good.{nameCellsGood, verdictOf, goodRecord};
+ghost use Rattle.batch.specs.Blank.{noRecord, blankRecord};
+ghost use Rattle.batch.specs.Same.{sameBatch};
+
+// A batch number, a type of its own so that it is never taken for a node or a channel number. A good record's is not 0.
+pub struct BatchNo(pub u32);
+
+pub struct BatchRecord {
+    pub batch: BatchNo,
+    pub vessel: u8,
+    // Tenths of a degree Celsius.
+    pub temperature: i16,
+    // How many cells of `name` are the name; the rest are the fill, zeros.
+    pub name_length: u8,
+    pub name: [u8; 32],
+}
+
+// A good record, or the first refusal that applies to it.
+pub enum Verdict {
+    Good,
+    Refused(Refusal),
+}
+
+impl BatchRecord {
+    // The limits, of document 01: temperatures in tenths of a degree, a name's length, and the bytes of a name.
+    pub const COLDEST: i16 = -400;
+
+    pub const HOTTEST: i16 = 1200;
+
+    pub const NAME_LIMIT: u8 = 32;
+
+    pub const FIRST_CHARACTER: u8 = 0x20;
+
+    pub const LAST_CHARACTER: u8 = 0x7E;
+
+    // What a cell that holds no record has: every field zero.
+    pub fn none() -> BatchRecord
+        ensures { λ r. ⌜ r ≡ noRecord ⌝ }
+    {
+        BatchRecord {
+            batch: BatchNo(0),
+            vessel: 0,
+            temperature: 0,
+            name_length: 0,
+            name: [0; 32],
+        }
+    }
+}
+
+// Whether the first `length` cells are characters and the rest zeros: one pass over the cells.
+fn name_cells_good(length: u8, name: [u8; 32]) -> bool
+    ensures { λ r. ⌜ r ≡ nameCellsGood length name ⌝ }
+{
+    let characters = length as usize;
+    let mut i = 0;
+    while i < 32 {
+        let cell = name[i];
+        if i < characters {
+            if cell < BatchRecord::FIRST_CHARACTER {
+                return false;
+            }
+            if BatchRecord::LAST_CHARACTER < cell {
+                return false;
+            }
+        } else if cell != 0 {
+            return false;
+        }
+        i += 1;
+    }
+    true
+}
+
+// The first refusal that applies, in the order of document 01.
+pub fn judge(record: BatchRecord) -> Verdict
+    ensures { λ r. ⌜ r ≡ verdictOf «record» ⌝ }
+{
+    let number = record.batch.0;
+    let temperature = record.temperature;
+    let name_length = record.name_length;
+    let name = record.name;
+    if number == 0 {
+        return Verdict::Refused(Refusal::BatchNumberZero);
+    }
+    if temperature < BatchRecord::COLDEST {
+        return Verdict::Refused(Refusal::TemperatureOutOfRange);
+    }
+    if BatchRecord::HOTTEST < temperature {
+        return Verdict::Refused(Refusal::TemperatureOutOfRange);
+    }
+    if BatchRecord::NAME_LIMIT < name_length {
+        return Verdict::Refused(Refusal::NameTooLong);
+    }
+    if name_cells_good(name_length, name) {
+        Verdict::Good
+    } else {
+        Verdict::Refused(Refusal::BadName)
+    }
+}
+
+// Whether no refusal applies to the record.
+pub fn is_good(record: BatchRecord) -> bool
+    ensures { λ r. ⌜ r ≡ goodRecord «record» ⌝ }
+{
+    let verdict = judge(record);
+    match verdict {
+        Verdict::Good => true,
+        Verdict::Refused(_) => false,
+    }
+}
+
+// Whether every field is zero. A name of no characters has zeros in all its cells.
+pub fn is_blank(record: BatchRecord) -> bool
+    ensures { λ r. ⌜ r ≡ blankRecord «record» ⌝ }
+{
+    let number = record.batch.0;
+    let vessel = record.vessel;
+    let temperature = record.temperature;
+    let name_length = record.name_length;
+    let name = record.name;
+    if number != 0 {
+        return false;
+    }
+    if vessel != 0 {
+        return false;
+    }
+    if temperature != 0 {
+        return false;
+    }
+    if name_length != 0 {
+        return false;
+    }
+    name_cells_good(0, name)
+}
+
+// Whether two records are of one batch: by their batch numbers alone, whatever their names.
+pub fn same_batch(a: BatchRecord, b: BatchRecord) -> bool
+    ensures { λ r. ⌜ r ≡ sameBatch a b ⌝ }
+{
+    let number = a.batch.0;
+    let other = b.batch.0;
+    number == other
+}

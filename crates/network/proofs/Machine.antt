@@ -1,0 +1,117 @@
+-- What is shown of the ring apart from its layout holds of anything that answers ring calls the same way: a `Machine`. Its runs are
+-- runs of the ring that it holds, call for call, so demand 3 is carried over whole. Assumes nothing.
+use Prim.Native.Nat.{ℕ, _+_, _≤_, _<_}
+use mathlib.Core.Path.{_≡_, refl, sym, ap, _∙_}
+use mathlib.Core.Logic.{_⊎_, inl, inr, ⊎-elim}
+use mathlib.Core.Bool.{Bool, true}
+use mathlib.Core.List.{List, [], _∷_, _++_}
+use mathlib.Core.Option.{Option, some}
+use Rattle.batch.specs.declared.BatchRecord.{BatchRecord}
+use Rattle.network.specs.Network.{Network}
+use Rattle.network.specs.Network
+use Rattle.network.specs.Sound.{Limits}
+use Rattle.network.specs.Sound
+use Rattle.network.specs.Calls.{Outcome, refused, accepted}
+use Rattle.network.specs.Runs.{Call, enter, move, call, after, isAccepted, countedBy, offeredBy, deliveredBy, run, counted, offeredOn, deliveredOn, matched, bound}
+use Rattle.network.specs.Demand.{InTime, UnderWay, Demand3}
+
+abbrev pub seenBy : {S : Type 0} → (S → Network) → Outcome S → Outcome Network
+seenBy seen (refused r) = refused r
+seenBy seen (accepted e s) = accepted e (seen s)
+
+-- the same outcome but for what holds the ring: each question about it has the same answer
+module _ {S : Type 0} (seen : S → Network) where
+  seen-after : (s : S) (o : Outcome S) → seen (after s o) ≡ after (seen s) (seenBy seen o)
+  seen-after s (refused r) = refl
+  seen-after s (accepted e t) = refl
+
+  seen-accepted : (o : Outcome S) → isAccepted o ≡ isAccepted (seenBy seen o)
+  seen-accepted (refused r) = refl
+  seen-accepted (accepted e t) = refl
+
+  seen-counted : (a : Call) (o : Outcome S) → countedBy a o ≡ countedBy a (seenBy seen o)
+  seen-counted a (refused r) = refl
+  seen-counted a (accepted e t) = refl
+
+  seen-offered : (k : ℕ) (a : Call) (o : Outcome S) → offeredBy k a o ≡ offeredBy k a (seenBy seen o)
+  seen-offered k a (refused r) = refl
+  seen-offered k a (accepted e t) = refl
+
+  seen-delivered : (k : ℕ) (o : Outcome S) → deliveredBy k o ≡ deliveredBy k (seenBy seen o)
+  seen-delivered k (refused r) = refl
+  seen-delivered k (accepted e t) = refl
+
+pub record Machine (L : Limits) {S : Type 0} (fresh : S) (sound : S → Bool) (seen : S → Network) (step : Call → S → Outcome S) : Type 0 where
+  pub fresh-sound : sound fresh ≡ true
+  pub fresh-seen : seen fresh ≡ Network.fresh
+  pub seen-sound : (s : S) → sound s ≡ true → Sound.sound L (seen s) ≡ true
+  pub step-seen : (a : Call) (s : S) → sound s ≡ true → seenBy seen (step a s) ≡ call L a (seen s)
+  pub step-sound : (a : Call) (s : S) → sound s ≡ true → sound (after s (step a s)) ≡ true
+
+module _ (L : Limits) {S : Type 0} (fresh : S) (sound : S → Bool) (seen : S → Network) (step : Call → S → Outcome S) (M : Machine L fresh sound seen step) where
+  open Machine M using (fresh-sound, fresh-seen, seen-sound, step-seen, step-sound)
+
+  seen-next : (a : Call) (s : S) → sound s ≡ true → seen (after s (step a s)) ≡ after (seen s) (call L a (seen s))
+  seen-next a s h = seen-after seen s (step a s) ∙ ap (after (seen s)) (step-seen a s h)
+
+  run-sound : (calls : List Call) (s : S) → sound s ≡ true → sound (run step calls s) ≡ true
+  run-sound [] s h = h
+  run-sound (a ∷ calls) s h = run-sound calls (after s (step a s)) (step-sound a s h)
+
+  run-seen : (calls : List Call) (s : S) → sound s ≡ true → seen (run step calls s) ≡ run (call L) calls (seen s)
+  run-seen [] s h = refl
+  run-seen (a ∷ calls) s h = run-seen calls (after s (step a s)) (step-sound a s h) ∙ ap (run (call L) calls) (seen-next a s h)
+
+  counted-seen : (calls : List Call) (s : S) → sound s ≡ true → counted step calls s ≡ counted (call L) calls (seen s)
+  counted-seen [] s h = refl
+  counted-seen (a ∷ calls) s h =
+      rw (seen-counted seen a (step a s), step-seen a s h, counted-seen calls (after s (step a s)) (step-sound a s h), seen-next a s h)
+
+  offered-seen : (k : ℕ) (calls : List Call) (s : S) → sound s ≡ true → offeredOn step k calls s ≡ offeredOn (call L) k calls (seen s)
+  offered-seen k [] s h = refl
+  offered-seen k (a ∷ calls) s h =
+      rw (seen-offered seen k a (step a s), step-seen a s h, offered-seen k calls (after s (step a s)) (step-sound a s h), seen-next a s h)
+
+  handed-seen : (k : ℕ) (calls : List Call) (s : S) → sound s ≡ true → deliveredOn step k calls s ≡ deliveredOn (call L) k calls (seen s)
+  handed-seen k [] s h = refl
+  handed-seen k (a ∷ calls) s h =
+      rw (seen-delivered seen k (step a s), step-seen a s h, handed-seen k calls (after s (step a s)) (step-sound a s h), seen-next a s h)
+
+  accepted-seen : (a : Call) (s : S) → sound s ≡ true → isAccepted (step a s) ≡ isAccepted (call L a (seen s))
+  accepted-seen a s h = seen-accepted seen (step a s) ∙ ap isAccepted (step-seen a s h)
+
+  -- demand 3 of the ring apart from its layout, carried over
+  module _ (D : Demand3 Network.fresh (Sound.sound L) (λ σ. σ) (call L)) where
+    in-time : (s : S) (m : ℕ) (x : BatchRecord) (calls : List Call) → sound s ≡ true →
+        InTime Network.fresh (Sound.sound L) (λ σ. σ) (call L) (seen s) m x calls → InTime fresh sound seen step s m x calls
+    in-time s m x calls h i =
+        record {
+          upTo = i .upTo;
+          rest = i .rest;
+          split = i .split;
+          first = handed-seen m (i .upTo) s h ∙ i .first;
+          within = rw (counted-seen (i .upTo) s h) (i .within);
+        }
+
+    under-way : (s : S) (m : ℕ) (calls : List Call) → sound s ≡ true →
+        UnderWay Network.fresh (Sound.sound L) (λ σ. σ) (call L) (seen s) m calls → UnderWay fresh sound seen step s m calls
+    under-way s m calls h u =
+        let on = run-sound calls s h in
+        record {
+          none-yet = handed-seen m calls s h ∙ u .none-yet;
+          fewer = rw (counted-seen calls s h) (u .fewer);
+          at = u .at;
+          next-accepted =
+              rw (accepted-seen (enter (u .at)) _ on, accepted-seen (move (u .at)) _ on, run-seen calls s h) (u .next-accepted);
+        }
+
+    pub carried-over : Demand3 fresh sound seen step
+    carried-over =
+        record {
+          served = λ s m x calls h b e.
+              ⊎-elim (λ i. inl (in-time s m x calls h i)) (λ u. inr (under-way s m calls h u))
+              (D .served (seen s) m x calls (seen-sound s h) b e);
+          in-order = λ k calls.
+              let r = D .in-order k calls in
+              (r .0, rw (offered-seen k calls fresh fresh-sound, handed-seen k calls fresh fresh-sound, fresh-seen) (r .1));
+        }

@@ -1,0 +1,56 @@
+-- What a test over the numbers below a bound, or over a list, says of each of them, and back. A number stands in a list where its
+-- count is above 0. Assumes nothing.
+use Prim.Native.Nat.{ℕ, zero, suc, _≤_, _<_}
+use mathlib.Core.Path.{_≡_, refl}
+use mathlib.Core.Logic.{_↔_}
+use mathlib.Core.Bool.{Bool, true, _&&_}
+use mathlib.Core.List.{List, [], _∷_}
+use native.Mathlib.Nat.{not-suc-le-zero}
+use native.Mathlib.Omega.{arith}
+use lib.Dec.{eqb, leb}
+use borrow.Author.Tests.{eqb-true, leb-true, eq-eqb, le-leb}
+use Rattle.network.specs.Counting.{allBelow, allOf, weigh, count}
+use Rattle.network.proofs.Cases.{by-same, and-left, and-right, and-both}
+use Rattle.network.proofs.Counting.{count-same, count-other}
+
+pub all-below : (n : ℕ) (f : ℕ → Bool) → allBelow n f ≡ true → (p : ℕ) → p < n → f p ≡ true
+unfolding allBelow
+all-below zero f e p l = absurd (not-suc-le-zero l)
+all-below (suc n) f e p l =
+    by-same p n (λ same. rw same (and-right (allBelow n f) (f n) e))
+    (λ d. all-below n f (and-left (allBelow n f) (f n) e) p (omega arith))
+
+pub below-all : (n : ℕ) (f : ℕ → Bool) → ((p : ℕ) → p < n → f p ≡ true) → allBelow n f ≡ true
+unfolding allBelow
+below-all zero f h = refl
+below-all (suc n) f h =
+    and-both (allBelow n f) (f n) (below-all n f (λ p l. h p (omega arith))) (h n (omega arith))
+
+pub all-of : (f : ℕ → Bool) (xs : List ℕ) → allOf f xs ≡ true → (k : ℕ) → 0 < count k xs → f k ≡ true
+unfolding allOf weigh
+all-of f [] e k l = absurd (not-suc-le-zero l)
+all-of f (x ∷ xs) e k l =
+    by-same x k (λ same. rw (← same) (and-left (f x) (allOf f xs) e))
+    (λ d. all-of f xs (and-right (f x) (allOf f xs) e) k (omega (arith, count-other x k d)))
+
+pub of-all : (f : ℕ → Bool) (xs : List ℕ) → ((k : ℕ) → 0 < count k xs → f k ≡ true) → allOf f xs ≡ true
+unfolding allOf weigh
+of-all f [] h = refl
+of-all f (x ∷ xs) h =
+    and-both (f x) (allOf f xs) (h x (omega (arith, count-same x))) (of-all f xs (λ k l. h k (omega arith)))
+
+-- A test made of tests, read as a statement made of statements: `simp reads at e` and `simp reads` go from one to the other.
+
+pub and-reads : (a b : Bool) → ((a && b) ≡ true) ↔ ((a ≡ true) × (b ≡ true))
+and-reads a b = (λ e. (and-left a b e, and-right a b e), λ e. and-both a b (e .0) (e .1))
+
+pub leb-reads : (a b : ℕ) → (leb a b ≡ true) ↔ (a ≤ b)
+leb-reads a b = (leb-true a b, le-leb a b)
+
+pub eqb-reads : (a b : ℕ) → (eqb a b ≡ true) ↔ (a ≡ b)
+eqb-reads a b = (eqb-true a b, eq-eqb a b)
+
+pub below-reads : (n : ℕ) (f : ℕ → Bool) → (allBelow n f ≡ true) ↔ ((p : ℕ) → p < n → f p ≡ true)
+below-reads n f = (all-below n f, below-all n f)
+
+pub ruleset reads = (and-reads, leb-reads, eqb-reads, below-reads)

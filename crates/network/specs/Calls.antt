@@ -1,0 +1,191 @@
+-- The nine ring calls of document 01, "Steps" and "Refusal by operation": each is a function of its operands and the ring, and
+-- answers the first refusal that applies, or is accepted with an answer and the next ring. That an unsound ring is refused before
+-- all others is said once, where a ring in memory is called (Layout). Assumes nothing.
+use Prim.Native.Nat.{ℕ, zero, suc, _+_, _*_, _^_, min}
+use mathlib.Core.Bool.{Bool, true, false, cond, _&&_, _||_, not}
+use mathlib.Core.List.{List, [], _∷_, _++_}
+use mathlib.Core.Option.{Option, none, some}
+use lib.Dec.{leb, ltb, eqb}
+use lib.ListN.{length}
+use Rattle.refusal.specs.declared.Refusal.{Refusal}
+use Rattle.refusal.specs.declared.Refusal.the-variants.{AlreadyStarted, NodesFull, BadSlots, ChannelsFull, NoSuchEnd, NothingToStart, TooFewSlots, NotStarted, NoSuchChannel, NotResting, AlreadyOffered, NoSuchNode, LineEmpty, NoFreeSlot, BufferEmpty, NextBufferFull, TurnMarkSet}
+use Rattle.batch.specs.declared.BatchRecord.{BatchRecord}
+use Rattle.batch.specs.declared.Verdict.{Verdict}
+use Rattle.batch.specs.declared.Verdict.the-variants.{Good, Refused}
+use Rattle.batch.specs.Good.{verdictOf}
+use Rattle.hops.specs.Hops.{hops}
+use Rattle.network.specs.Counting.{one, sum, count, occupied}
+use Rattle.network.specs.Network.{Network, NodeState, ChannelState, Phase, resting, asking, ready, answering, nodeCount, channelCount, slotCount, node, channel, nextNode, target, withNode, withChannel, withNewNode, withNewChannel, withStarted, withDeliveries}
+use Rattle.network.specs.Sound.{Limits, lastCount, absent, isResting, isReady}
+
+-- what an accepted call answers: nothing more, a delivery with its channel and record, hops left, or a waiting set
+pub data Event : Type 0 where
+  done : Event
+  delivered : ℕ → BatchRecord → Event
+  hopsAre : ℕ → Event
+  waitingAre : ℕ → Event
+
+-- a call is refused with one of the numbered refusals, or accepted with its answer and the next ring
+pub data Outcome (S : Type 0) : Type 0 where
+  refused : Refusal → Outcome S
+  accepted : Event → S → Outcome S
+
+-- go on if the test passes, else refuse
+abbrev pub unless {ℓ} : {A : Type ℓ} → Bool → A → A → A
+unless true r o = o
+unless false r o = r
+
+-- channel k joins the line of node p
+abbrev pub joinLine : ℕ → ℕ → Network → Network
+joinLine p k σ = withNode p (node σ p .buffer) (node σ p .line ++ (k ∷ [])) (node σ p .mark) σ
+
+-- the channel becomes answering, and the record x leaves the offer and joins the sender node's line as the response
+abbrev pub respond : ℕ → BatchRecord → Network → Network
+respond k x σ = joinLine (channel σ k .sender) k (withChannel k (answering x) none σ)
+
+-- what a node q does with a message that reaches it: a request for which it is the sender node is taken, a response for which it is
+-- the receiver node is delivered, anything else passes into its buffer
+pub data Arrival : Type 0 where
+  taken passing : Arrival
+  arrived : BatchRecord → Arrival
+
+abbrev pub arrivalOf : Phase → Bool → Arrival
+arrivalOf resting here = passing
+arrivalOf asking here = cond here taken passing
+arrivalOf ready here = passing
+arrivalOf (answering x) here = cond here (arrived x) passing
+
+unfoldable pub arrival : Network → ℕ → ℕ → Arrival
+arrival σ q k = arrivalOf (channel σ k .phase) (eqb q (target σ k))
+
+-- a request is taken without a slot: the channel becomes ready, or, with a record offered, answering
+abbrev pub takeRequest : ℕ → Option BatchRecord → Network → Network
+takeRequest k none σ = withChannel k ready none σ
+takeRequest k (some x) σ = respond k x σ
+
+-- a response is delivered without a slot: the channel rests and the count rises
+abbrev pub deliver : ℕ → Network → Network
+deliver k σ = withDeliveries (min (σ .deliveries + 1) lastCount) (withChannel k resting (channel σ k .offer) σ)
+
+-- the message leaves the buffer of p, where ks stay behind
+abbrev pub leave : ℕ → List ℕ → Network → Network
+leave p ks σ = withNode p ks (node σ p .line) (node σ p .mark) σ
+
+-- a passing message goes to the end of the buffer of q; if the line of q is not empty, its turn mark is set
+abbrev pub pass : ℕ → ℕ → Network → Network
+pass q k σ =
+    withNode q (node σ q .buffer ++ (k ∷ [])) (node σ q .line) (node σ q .mark || occupied (node σ q .line)) σ
+
+abbrev pub hasSlot : Network → ℕ → Bool
+hasSlot σ p = ltb (length (node σ p .buffer)) (node σ p .slots)
+
+-- the first of a line goes to the end of the buffer, and the turn mark is cleared
+abbrev pub enterFirst : ℕ → List ℕ → Network → Outcome Network
+enterFirst p [] σ = refused LineEmpty
+enterFirst p (k ∷ ks) σ =
+    unless (hasSlot σ p) (refused NoFreeSlot)
+    (accepted done (withNode p (node σ p .buffer ++ (k ∷ [])) ks false σ))
+
+-- message k goes from the buffer of p, where ks stay behind, to node q
+abbrev pub handOver : ℕ → ℕ → ℕ → List ℕ → Arrival → Network → Outcome Network
+handOver p q k ks taken σ = accepted done (takeRequest k (channel σ k .offer) (leave p ks σ))
+handOver p q k ks (arrived x) σ = accepted (delivered k x) (deliver k (leave p ks σ))
+handOver p q k ks passing σ =
+    unless (hasSlot σ q) (refused NextBufferFull)
+    (unless (not (node σ q .mark)) (refused TurnMarkSet)
+    (accepted done (pass q k (leave p ks σ))))
+
+abbrev pub moveFirst : ℕ → List ℕ → Network → Outcome Network
+moveFirst p [] σ = refused BufferEmpty
+moveFirst p (k ∷ ks) σ = handOver p (nextNode σ p) k ks (arrival σ (nextNode σ p) k) σ
+
+-- Send offers the record. If the channel is ready, the record leaves the offer at once as the response.
+abbrev pub offerTo : ℕ → BatchRecord → Network → Network
+offerTo k x σ = cond (isReady (channel σ k .phase)) (respond k x σ) (withChannel k (channel σ k .phase) (some x) σ)
+
+-- a bad record is refused with its own number
+abbrev pub ifGood : Verdict → Outcome Network → Outcome Network
+ifGood Good o = o
+ifGood (Refused r) o = refused r
+
+-- the node in whose buffer channel k stands, if it stands in one of the first n
+unfoldable pub holder : Network → ℕ → ℕ → Option ℕ
+holder σ k zero = none
+holder σ k (suc p) = cond (ltb 0 (count k (node σ p .buffer))) (some p) (holder σ k p)
+
+-- Hops left, document 01, by phase and by where the message stands: in a line (none) or in the buffer of p
+abbrev pub hopsLeftOf : ℕ → ChannelState → Phase → Option ℕ → ℕ
+hopsLeftOf n s resting at = 0
+hopsLeftOf n s ready at = hops n (s .sender) (s .receiver)
+hopsLeftOf n s asking none = hops n (s .receiver) (s .sender) + hops n (s .sender) (s .receiver)
+hopsLeftOf n s asking (some p) = hops n p (s .sender) + hops n (s .sender) (s .receiver)
+hopsLeftOf n s (answering x) none = hops n (s .sender) (s .receiver)
+hopsLeftOf n s (answering x) (some p) = hops n p (s .receiver)
+
+unfoldable pub hopsOf : Network → ℕ → ℕ
+hopsOf σ k = hopsLeftOf (nodeCount σ) (channel σ k) (channel σ k .phase) (holder σ k (nodeCount σ))
+
+-- the channels whose receiver is node p and that are not resting, as a set of bits, channel 0 being the lowest
+unfoldable pub waitingOf : Network → ℕ → ℕ
+waitingOf σ p =
+    sum (channelCount σ) (λ k. 2 ^ k * one (eqb (channel σ k .receiver) p && not (isResting (channel σ k .phase))))
+
+-- The nine calls. Each line is a refusal in the order of document 01: go on where the test passes, else refuse.
+module _ (L : Limits) where
+  unfoldable pub addNode : ℕ → Network → Outcome Network
+  addNode slots σ =
+      unless (not (σ .started)) (refused AlreadyStarted)
+      (unless (ltb (nodeCount σ) (L .nodes)) (refused NodesFull)
+      (unless (leb 1 slots && leb slots (L .slots)) (refused BadSlots)
+      (accepted done (withNewNode slots σ))))
+
+  unfoldable pub addChannel : ℕ → ℕ → Network → Outcome Network
+  addChannel sender receiver σ =
+      unless (not (σ .started)) (refused AlreadyStarted)
+      (unless (ltb (channelCount σ) (L .channels)) (refused ChannelsFull)
+      (unless (ltb sender (nodeCount σ) && ltb receiver (nodeCount σ)) (refused NoSuchEnd)
+      (accepted done (withNewChannel sender receiver σ))))
+
+unfoldable pub start : Network → Outcome Network
+start σ =
+    unless (not (σ .started)) (refused AlreadyStarted)
+    (unless (leb 1 (nodeCount σ) && leb 1 (channelCount σ)) (refused NothingToStart)
+    (unless (ltb (channelCount σ) (slotCount σ)) (refused TooFewSlots)
+    (accepted done (withStarted true σ))))
+
+-- Receive on a resting channel: it becomes asking, and its request joins the receiver node's line.
+unfoldable pub receive : ℕ → Network → Outcome Network
+receive k σ =
+    unless (σ .started) (refused NotStarted)
+    (unless (ltb k (channelCount σ)) (refused NoSuchChannel)
+    (unless (isResting (channel σ k .phase)) (refused NotResting)
+    (accepted done (joinLine (channel σ k .receiver) k (withChannel k asking (channel σ k .offer) σ)))))
+
+unfoldable pub send : ℕ → BatchRecord → Network → Outcome Network
+send k x σ =
+    unless (σ .started) (refused NotStarted)
+    (unless (ltb k (channelCount σ)) (refused NoSuchChannel)
+    (ifGood (verdictOf x)
+    (unless (absent (channel σ k .offer)) (refused AlreadyOffered)
+    (accepted done (offerTo k x σ)))))
+
+unfoldable pub enter : ℕ → Network → Outcome Network
+enter p σ =
+    unless (σ .started) (refused NotStarted)
+    (unless (ltb p (nodeCount σ)) (refused NoSuchNode)
+    (enterFirst p (node σ p .line) σ))
+
+unfoldable pub move : ℕ → Network → Outcome Network
+move p σ =
+    unless (σ .started) (refused NotStarted)
+    (unless (ltb p (nodeCount σ)) (refused NoSuchNode)
+    (moveFirst p (node σ p .buffer) σ))
+
+unfoldable pub hopsLeft : ℕ → Network → Outcome Network
+hopsLeft k σ =
+    unless (σ .started) (refused NotStarted)
+    (unless (ltb k (channelCount σ)) (refused NoSuchChannel)
+    (accepted (hopsAre (hopsOf σ k)) σ))
+
+unfoldable pub waitingSet : ℕ → Network → Outcome Network
+waitingSet p σ = unless (ltb p (nodeCount σ)) (refused NoSuchNode) (accepted (waitingAre (waitingOf σ p)) σ)

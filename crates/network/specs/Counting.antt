@@ -1,0 +1,45 @@
+-- Sums, counts and tests over the numbers below a bound and over lists: the few words that the other definitions are written in.
+-- Assumes nothing.
+use Prim.Native.Nat.{ℕ, zero, suc, _+_}
+use mathlib.Core.Bool.{Bool, true, false, _&&_, not}
+use mathlib.Core.List.{List, [], _∷_, _++_}
+use lib.Dec.{eqb}
+
+-- 1 where the test passes, else 0
+abbrev pub one : Bool → ℕ
+one true = 1
+one false = 0
+
+-- f 0 + f 1 + .. + f (n - 1)
+unfoldable pub sum : ℕ → (ℕ → ℕ) → ℕ
+sum zero f = 0
+sum (suc n) f = sum n f + f n
+
+-- the test passes at every number below n
+unfoldable pub allBelow : ℕ → (ℕ → Bool) → Bool
+allBelow zero f = true
+allBelow (suc n) f = allBelow n f && f n
+
+-- the list f 0, f 1, .., f (n - 1)
+unfoldable pub tabulate {ℓ} : {A : Type ℓ} → ℕ → (ℕ → A) → List A
+tabulate zero f = []
+tabulate (suc n) f = tabulate n f ++ (f n ∷ [])
+
+-- the sum of f over a list
+unfoldable pub weigh : (ℕ → ℕ) → List ℕ → ℕ
+weigh f [] = 0
+weigh f (x ∷ xs) = f x + weigh f xs
+
+-- how many times k stands in a list
+abbrev pub count : ℕ → List ℕ → ℕ
+count k xs = weigh (λ x. one (eqb x k)) xs
+
+-- the test passes at every element of a list
+unfoldable pub allOf : (ℕ → Bool) → List ℕ → Bool
+allOf f [] = true
+allOf f (x ∷ xs) = f x && allOf f xs
+
+-- the list has an element
+abbrev pub occupied : List ℕ → Bool
+occupied [] = false
+occupied (x ∷ xs) = true

@@ -1,0 +1,122 @@
+-- The edges P1 to P11 of document 01 as one table, and its two worked runs, the listing and the turn case, as lists of calls with the
+-- numbers that they answer. Assumes nothing.
+use Prim.Native.Nat.{ℕ, zero, suc, _<_}
+use mathlib.Core.Path.{_≡_}
+use mathlib.Core.Bool.{Bool}
+use mathlib.Core.List.{List, [], _∷_, _++_, map}
+use lib.IntN.{ℤ, pos, negℤ}
+use lib.ListN.{length, getD, replicate}
+use Rattle.refusal.specs.Number.{numberOf}
+use Rattle.batch.specs.declared.BatchRecord.{BatchRecord}
+use Rattle.batch.specs.declared.Verdict.{Verdict}
+use Rattle.batch.specs.declared.Verdict.the-variants.{Good, Refused}
+use Rattle.batch.specs.Good.{verdictOf}
+use Rattle.hops.specs.Hops.{hops}
+use Rattle.network.specs.Network.{Network, fresh}
+use Rattle.network.specs.Calls.{Outcome}
+use Rattle.network.specs.Answers.{outcomeNumber}
+use Rattle.network.specs.Runs.{Call, addNode, addChannel, start, receive, send, enter, move, call, after, run, deliveredOn, bound}
+use Rattle.network.specs.Layout.{ringLimits}
+
+-- document 01's number for a verdict on a record
+abbrev pub verdictNumber : Verdict → ℕ
+verdictNumber Good = 0
+verdictNumber (Refused r) = numberOf r
+
+-- the numbers that a run answers, call by call
+abbrev pub numbers : {S : Type 0} → (Call → S → Outcome S) → List Call → S → List ℕ
+numbers step [] s = []
+numbers step (a ∷ calls) s = outcomeNumber (step a s) ∷ numbers step calls (after s (step a s))
+
+-- a ring with nodes of so many slots each and with channels from sender to receiver, not started
+pub record Ends : Type 0 where
+  pub from : ℕ
+  pub to : ℕ
+
+abbrev pub planned : List ℕ → List Ends → Network
+planned slots ends = run (call ringLimits) (map addNode slots ++ map (λ (e : Ends). addChannel (e .from) (e .to)) ends) fresh
+
+-- a record with this temperature, and a name of so many letters in 32 cells
+abbrev pub sample : ℤ → ℕ → List ℕ → BatchRecord
+sample degrees size cells =
+    record { batch = record { 0 = 7 }; vessel = 3; temperature = degrees; «name_length» = size; name = cells }
+
+-- what a row of the table asks
+pub data Question : Type 0 where
+  starting : List ℕ → List Ends → Question
+  hopsFrom : ℕ → ℕ → ℕ → Question
+  naming : ℕ → Question
+  heating : ℤ → Question
+  slotting : ℕ → Question
+  counting : List ℕ → List Ends → Question
+
+abbrev pub ask : Question → ℕ
+ask (starting slots ends) = outcomeNumber (call ringLimits start (planned slots ends))
+ask (hopsFrom n p q) = hops n p q
+ask (naming size) = verdictNumber (verdictOf (sample (pos 612) size (replicate 32 0x41)))
+ask (heating degrees) = verdictNumber (verdictOf (sample degrees 0 (replicate 32 0)))
+ask (slotting slots) = outcomeNumber (call ringLimits (addNode slots) fresh)
+ask (counting slots ends) = bound (planned slots ends)
+
+pub record Edge : Type 0 where
+  pub question : Question
+  pub answer : ℕ
+
+abbrev pub edge : Question → ℕ → Edge
+edge q a = record { question = q; answer = a }
+
+abbrev pub ends : ℕ → ℕ → Ends
+ends s r = record { from = s; to = r }
+
+unfoldable pub edges : List Edge
+edges =
+    -- P1, P2: two same-node channels want three slots
+    edge (starting (1 ∷ 1 ∷ []) (ends 0 0 ∷ ends 1 1 ∷ [])) 7
+    ∷ edge (starting (1 ∷ 2 ∷ []) (ends 0 0 ∷ ends 1 1 ∷ [])) 0
+    -- P3 to P5
+    ∷ edge (hopsFrom 3 2 1) 2
+    ∷ edge (hopsFrom 3 1 1) 3
+    ∷ edge (hopsFrom 1 0 0) 1
+    -- P6, P7
+    ∷ edge (naming 32) 0
+    ∷ edge (naming 33) 13
+    -- P8, P9
+    ∷ edge (heating (pos 1200)) 0
+    ∷ edge (heating (negℤ (pos 400))) 0
+    ∷ edge (heating (pos 1201)) 12
+    ∷ edge (heating (negℤ (pos 401))) 12
+    -- P10
+    ∷ edge (slotting 64) 0
+    ∷ edge (slotting 65) 3
+    -- P11
+    ∷ edge (counting (1 ∷ 2 ∷ []) (ends 0 0 ∷ ends 1 1 ∷ [])) 156
+    ∷ []
+
+-- every row of the table is right
+abbrev pub EdgesHold : Type 0
+EdgesHold = (i : ℕ) → i < length edges → ask (getD edges i (edge (slotting 0) 0) .question) ≡ getD edges i (edge (slotting 0) 0) .answer
+
+-- the run of document 01's listing, and the record that it delivers
+abbrev pub listingRecord : BatchRecord
+listingRecord = sample (pos 612) 2 (0x41 ∷ 0x31 ∷ replicate 30 0)
+
+abbrev pub listingCalls : List Call
+listingCalls =
+    addNode 1 ∷ addNode 2 ∷ addChannel 1 0 ∷ start ∷ receive 0 ∷ receive 0 ∷ enter 0 ∷ move 0 ∷ send 0 listingRecord ∷ enter 1
+    ∷ move 1 ∷ move 1 ∷ []
+
+abbrev pub ListingHolds : Type 0
+ListingHolds =
+    (numbers (call ringLimits) listingCalls fresh ≡ 0 ∷ 0 ∷ 0 ∷ 0 ∷ 0 ∷ 10 ∷ 0 ∷ 0 ∷ 0 ∷ 0 ∷ 0 ∷ 19 ∷ [])
+    × (deliveredOn (call ringLimits) 0 listingCalls fresh ≡ listingRecord ∷ [])
+
+-- the turn case: the plan, then the calls of document 01 in their order
+abbrev pub turnCalls : List Call
+turnCalls =
+    addNode 1 ∷ addNode 2 ∷ addNode 1 ∷ addChannel 2 0 ∷ addChannel 2 1 ∷ addChannel 2 0 ∷ start
+    ∷ receive 0 ∷ receive 1 ∷ receive 2 ∷ enter 0 ∷ move 0 ∷ enter 0 ∷ move 0 ∷ enter 1 ∷ move 0 ∷ move 1 ∷ move 0 ∷ []
+
+abbrev pub TurnHolds : Type 0
+TurnHolds =
+    numbers (call ringLimits) turnCalls fresh
+    ≡ 0 ∷ 0 ∷ 0 ∷ 0 ∷ 0 ∷ 0 ∷ 0 ∷ 0 ∷ 0 ∷ 0 ∷ 0 ∷ 0 ∷ 0 ∷ 21 ∷ 0 ∷ 20 ∷ 0 ∷ 0 ∷ []

@@ -1,0 +1,140 @@
+-- The ring of document 01 apart from how it is held in memory: nodes with a buffer and a line, channels with a phase and an offer.
+-- Buffers and lines are lists of channel numbers, first come first. Nothing here knows how many nodes or channels there may be.
+-- Assumes nothing.
+use Prim.Native.Nat.{ℕ, zero, suc, _+_}
+use mathlib.Core.Bool.{Bool, true, false, cond}
+use mathlib.Core.List.{List, [], _∷_, _++_}
+use mathlib.Core.Option.{Option, none, some}
+use lib.Dec.{eqb}
+use lib.ListN.{length, getD, set}
+use Rattle.batch.specs.declared.BatchRecord.{BatchRecord}
+use Rattle.hops.specs.Hops.{next}
+use Rattle.network.specs.Counting.{sum, count, occupied}
+
+-- Where a channel stands. Resting: nothing under way. Asking (document 01's word): its request is on the ring. Ready: the request
+-- arrived and no record was offered. Answering: its response is on the ring, with the record carried.
+pub data Phase : Type 0 where
+  resting asking ready : Phase
+  answering : BatchRecord → Phase
+
+-- A node: how many slots its buffer has, the buffer, and two things that document 01 names: the line, its own messages that wait
+-- to enter the buffer, and the turn mark, which lets the line go before passing traffic.
+pub record NodeState : Type 0 where
+  pub slots : ℕ
+  pub buffer : List ℕ
+  pub line : List ℕ
+  pub mark : Bool
+
+-- A channel: its two ends, its phase, and at most one offered record.
+pub record ChannelState : Type 0 where
+  pub sender : ℕ
+  pub receiver : ℕ
+  pub phase : Phase
+  pub offer : Option BatchRecord
+
+-- A ring. A message is known by its channel, which has at most one on the ring.
+pub record Network : Type 0 where
+  pub started : Bool
+  pub nodes : List NodeState
+  pub channels : List ChannelState
+  pub deliveries : ℕ
+
+abbrev pub ringOf : Bool → List NodeState → List ChannelState → ℕ → Network
+ringOf a ns cs d = record { started = a; nodes = ns; channels = cs; deliveries = d }
+
+-- A fresh ring has no node and no channel.
+abbrev pub fresh : Network
+fresh = ringOf false [] [] 0
+
+-- n, c and b of document 01
+abbrev pub nodeCount : Network → ℕ
+nodeCount σ = length (σ .nodes)
+
+abbrev pub channelCount : Network → ℕ
+channelCount σ = length (σ .channels)
+
+-- what is read of a node or a channel that there is not
+abbrev pub noNode : NodeState
+noNode = record { slots = 0; buffer = []; line = []; mark = false }
+
+abbrev pub noChannel : ChannelState
+noChannel = record { sender = 0; receiver = 0; phase = resting; offer = none }
+
+abbrev pub node : Network → ℕ → NodeState
+node σ p = getD (σ .nodes) p noNode
+
+abbrev pub channel : Network → ℕ → ChannelState
+channel σ k = getD (σ .channels) k noChannel
+
+abbrev pub slotCount : Network → ℕ
+slotCount σ = sum (nodeCount σ) (λ p. node σ p .slots)
+
+-- the next node round the ring
+abbrev pub nextNode : Network → ℕ → ℕ
+nextNode σ p = next (nodeCount σ) p
+
+-- the same ring but for node p: its buffer, its line and its turn mark are as given
+abbrev pub withNode : ℕ → List ℕ → List ℕ → Bool → Network → Network
+withNode p xs ys m σ =
+    ringOf (σ .started)
+    (set (σ .nodes) p (record { slots = node σ p .slots; buffer = xs; line = ys; mark = m }))
+    (σ .channels)
+    (σ .deliveries)
+
+-- the same ring but for channel k: its phase and its offer are as given
+abbrev pub withChannel : ℕ → Phase → Option BatchRecord → Network → Network
+withChannel k f o σ =
+    ringOf (σ .started) (σ .nodes)
+    (set (σ .channels) k (record { sender = channel σ k .sender; receiver = channel σ k .receiver; phase = f; offer = o }))
+    (σ .deliveries)
+
+-- a new node comes after the others, with nothing in it; a new channel after the others, at rest
+abbrev pub withNewNode : ℕ → Network → Network
+withNewNode slots σ =
+    ringOf (σ .started)
+    (σ .nodes ++ (record { slots = slots; buffer = []; line = []; mark = false } ∷ []))
+    (σ .channels)
+    (σ .deliveries)
+
+abbrev pub withNewChannel : ℕ → ℕ → Network → Network
+withNewChannel sender receiver σ =
+    ringOf (σ .started) (σ .nodes)
+    (σ .channels ++ (record { sender = sender; receiver = receiver; phase = resting; offer = none } ∷ []))
+    (σ .deliveries)
+
+abbrev pub withStarted : Bool → Network → Network
+withStarted b σ = ringOf b (σ .nodes) (σ .channels) (σ .deliveries)
+
+abbrev pub withDeliveries : ℕ → Network → Network
+withDeliveries d σ = ringOf (σ .started) (σ .nodes) (σ .channels) d
+
+-- a channel's message is on the ring: in a line or a buffer
+abbrev pub moving : Phase → Bool
+moving resting = false
+moving asking = true
+moving ready = false
+moving (answering x) = true
+
+-- The node at which a channel's message enters the ring, and the node that takes it: a request goes from the receiver to the
+-- sender, a response from the sender to the receiver.
+abbrev pub entryOf : ChannelState → Phase → ℕ
+entryOf s resting = s .receiver
+entryOf s asking = s .receiver
+entryOf s ready = s .sender
+entryOf s (answering x) = s .sender
+
+abbrev pub targetOf : ChannelState → Phase → ℕ
+targetOf s resting = s .sender
+targetOf s asking = s .sender
+targetOf s ready = s .receiver
+targetOf s (answering x) = s .receiver
+
+abbrev pub entry : Network → ℕ → ℕ
+entry σ k = entryOf (channel σ k) (channel σ k .phase)
+
+abbrev pub target : Network → ℕ → ℕ
+target σ k = targetOf (channel σ k) (channel σ k .phase)
+
+-- how many times channel k stands in lines and buffers
+abbrev pub timesOn : Network → ℕ → ℕ
+timesOn σ k = sum (nodeCount σ) (λ p. count k (node σ p .buffer) + count k (node σ p .line))

@@ -1,0 +1,31 @@
+-- What reading answers, case by case of its tests. Assumes nothing.
+use Prim.Native.Nat.{ℕ, _+_, _<_, _≤_}
+use mathlib.Core.Path.{_≡_}
+use mathlib.Core.List.{List}
+use native.Mathlib.Omega.{arith}
+use lib.ListN.{length, getD, drop}
+use borrow.Author.Tests.{lt-ltb, le-ltb, eq-eqb, ne-eqb}
+use Rattle.refusal.specs.declared.Refusal.the-variants.{UnknownCommand, CommandCut}
+use Rattle.tape.specs.declared.ReadAnswer.the-variants.{Refused}
+use Rattle.tape.specs.Table.{Row, rowOf}
+use Rattle.tape.specs.Tape.{withNone, readRow, readAt}
+use Rattle.tape.specs.RoundTrip.{found}
+
+-- within the bytes, the row of the command byte decides
+pub by-row : (bytes : List ℕ) (place : ℕ) → place < length bytes
+    → readAt bytes place ≡ readRow (rowOf (getD bytes place 0)) place (drop place bytes)
+unfolding readAt
+by-row bytes place h = rw (le-ltb (length bytes) place (omega arith), ne-eqb place (length bytes) (omega arith))
+
+module _ (r : Row) (place : ℕ) (b : List ℕ) where
+  pub row-unknown : r .width ≡ 0 → readRow r place b ≡ withNone (Refused UnknownCommand)
+  unfolding readRow
+  row-unknown h = rw (eq-eqb (r .width) 0 h)
+
+  pub row-cut : 0 < r .width → length b < r .width → readRow r place b ≡ withNone (Refused CommandCut)
+  unfolding readRow
+  row-cut s h = rw (ne-eqb (r .width) 0 (omega arith), lt-ltb (length b) (r .width) h)
+
+  pub row-found : 0 < r .width → r .width ≤ length b → readRow r place b ≡ found (place + r .width) (r .command b)
+  unfolding readRow
+  row-found s h = rw (ne-eqb (r .width) 0 (omega arith), le-ltb (length b) (r .width) h)

@@ -1,0 +1,77 @@
+-- What is claimed of reading and writing together: what was written reads back, and what was read writes back.
+-- Assumes nothing.
+use Prim.Native.Nat.{ℕ, _+_, _<_, _^_}
+use mathlib.Core.Path.{_≡_}
+use mathlib.Core.List.{List}
+use lib.ListN.{length}
+use lib.Signed.{mag}
+use Rattle.batch.specs.declared.BatchRecord.{BatchRecord}
+use Rattle.tape.specs.declared.Action.{Action}
+use Rattle.tape.specs.declared.Action.the-variants.{AddNode, AddChannel, Start, Receive, Send, Enter, Move}
+use Rattle.tape.specs.declared.Command.{Command}
+use Rattle.tape.specs.declared.ReadAnswer.{ReadAnswer}
+use Rattle.tape.specs.declared.ReadAnswer.the-variants.{Read, End}
+use Rattle.tape.specs.declared.ReadAnswer.the-variants as answer
+use Rattle.tape.specs.declared.Reading.{Reading}
+use Rattle.tape.specs.declared.Writing.{Writing}
+use Rattle.tape.specs.declared.Writing.the-variants.{Written}
+use Rattle.tape.specs.declared.Writing.the-variants as writing
+use Rattle.tape.specs.Bytes.{Bytes, overwritten}
+use Rattle.tape.specs.Table.{bytesOf, width, plain}
+use Rattle.tape.specs.Tape.{readAt, writeAt}
+
+-- the values that the fields of a command can hold, by their types
+abbrev pub OperandsFit : Action → Type 0
+OperandsFit (AddNode slots) = slots < 256
+OperandsFit (AddChannel sender receiver) = (sender < 256) × (receiver < 256)
+OperandsFit Start = Unit {0}
+OperandsFit (Receive channel) = channel < 256
+OperandsFit (Send channel) = channel < 256
+OperandsFit (Enter node) = node < 256
+OperandsFit (Move node) = node < 256
+
+pub record RecordFits (r : BatchRecord) : Type 0 where
+  pub batch : r .batch .0 < 2 ^ 32
+  pub vessel : r .vessel < 256
+  pub temperature : mag (r .temperature) < 2 ^ 15
+  pub name-length : r .«name_length» < 256
+  pub name-width : length (r .name) ≡ 32
+  pub name : Bytes (r .name)
+
+-- reading finds a command, and the place after it
+abbrev pub found : ℕ → Command → Reading
+found next c = record { answer = Read next; command = c }
+
+-- what was written reads back: the command, without a record where its action has none, and the same next place
+abbrev pub WrittenReadsBack : Type 0
+WrittenReadsBack =
+    (bytes : List ℕ) (place next : ℕ) (c : Command) → OperandsFit (c .action) → RecordFits (c .«record»)
+    → writeAt bytes place c ≡ Written next → readAt (overwritten bytes place (bytesOf c)) place ≡ found next (plain c)
+
+-- so a command without a needless record is read back itself
+abbrev pub PlainReadsBack : Type 0
+PlainReadsBack =
+    (bytes : List ℕ) (place next : ℕ) (c : Command) → OperandsFit (c .action) → RecordFits (c .«record») → plain c ≡ c
+    → writeAt bytes place c ≡ Written next → readAt (overwritten bytes place (bytesOf c)) place ≡ found next c
+
+-- what was read writes back: the same next place, and the bytes as they were
+abbrev pub ReadWritesBack : Type 0
+ReadWritesBack =
+    (bytes : List ℕ) (place next : ℕ) (c : Command) → Bytes bytes → readAt bytes place ≡ found next c
+    → (writeAt bytes place c ≡ Written next) × (overwritten bytes place (bytesOf c) ≡ bytes)
+
+-- a command that was read has a record only where its action has one, and its width leads to the next place
+abbrev pub ReadIsPlain : Type 0
+ReadIsPlain =
+    (bytes : List ℕ) (place next : ℕ) (c : Command) → readAt bytes place ≡ found next c
+    → (plain c ≡ c) × (next ≡ place + width c)
+
+-- the same as a promise to a caller: every value of a command's type fits, and so does every byte of a slice
+abbrev pub ReadsBack : Writing → List ℕ → ℕ → Command → Type 0
+ReadsBack (Written next) bytes place c = readAt bytes place ≡ found next (plain c)
+ReadsBack (writing.Refused r) bytes place c = Unit {0}
+
+abbrev pub WritesBack : ReadAnswer → List ℕ → ℕ → Command → Type 0
+WritesBack (Read next) bytes place c = (writeAt bytes place c ≡ Written next) × (overwritten bytes place (bytesOf c) ≡ bytes)
+WritesBack End bytes place c = Unit {0}
+WritesBack (answer.Refused r) bytes place c = Unit {0}
