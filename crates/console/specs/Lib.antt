@@ -1,0 +1,2 @@
+-- What the contracts of the tape program's input cite.
+pub mod Input

@@ -1,0 +1,78 @@
+-- `listing::text::push_name` meets its contract: an empty name appends nothing, and the cells before `end` are those that the length
+-- takes. Assumes nothing.
+use Prim.Native.Nat.{ℕ, min}
+use mathlib.Core.Path.{_≡_, refl, sym, ap, _∙_}
+use mathlib.Core.List.{List, [], _∷_}
+use native.Mathlib.Omega.{arith}
+use lib.ListN.{length, take, length-take}
+use lib.Seq.{take-all}
+use mir.Syntax.{w8}
+use borrow.Kind.Array.{eInt, good-length}
+use borrow.Author.Needs.{needs}
+use Rattle.network.proofs.Cases.{by-less}
+use Rattle.listing.specs.Line.{space, nameField}
+use Rattle.listing.proofs.Held.{_then_, same, up-to}
+use Rattle.listing.proofs.text.push_name.Statement.{statement}
+use Rattle.listing.proofs.text.push_name.Tie as tie
+
+some-name : (name : List ℕ) → (length name ≡ 0 → ⊥) → nameField name ≡ space ∷ name
+some-name [] h = absurd (h refl)
+some-name (b ∷ bytes) h = refl
+
+-- a length past the end takes all
+take-end : (n : ℕ) (cells : List ℕ) → take (min n (length cells)) cells ≡ take n cells
+take-end n cells =
+    by-less n (length cells)
+    (λ h. let e : min n (length cells) ≡ n = omega arith in rw e)
+    λ h. let e : min n (length cells) ≡ length cells = omega arith in
+    rw (e, take-all (length cells) cells (omega arith), take-all n cells h)
+
+full : (c : tie.Start) → length (c .args .t3) ≡ 32
+full c = good-length (eInt w8) 32 (c .args .t3) _ (c .good .1 .1 .0)
+
+-- the part of the cells that is lent
+module _ (c : tie.After-name-end) where
+  abbrev cells : List ℕ
+  cells = c .before .before .args .t3
+
+  abbrev name : List ℕ
+  name = take (c .name-end .result) cells
+
+  ended : c .name-end .result ≡ min (c .before .before .args .length) (length cells)
+  ended = c .name-end .ensures ∙ rw (full (c .before .before))
+
+  size : length name ≡ c .name-end .result
+  size = length-take (c .name-end .result) cells ∙ omega (arith, ended, full (c .before .before))
+
+  named : nameField (take (c .before .before .args .length) cells) ≡ space ∷ name
+  named =
+      let e : name ≡ take (c .before .before .args .length) cells
+      = ap (λ (k : ℕ). take k cells) ended ∙ take-end _ cells in
+      rw (← e) (some-name name λ z. c .before .if1 .left (omega (arith, size, ended, full (c .before .before))))
+
+returns : tie.Need-returns
+returns c = rw (c .if1 .taken) (up-to (omega arith) (same _))
+
+slice-aggregate-push-all : tie.Need-slice-aggregate-push-all
+slice-aggregate-push-all c = sym (size (c .before .before))
+
+push-all-requires : tie.Need-push-all-requires
+push-all-requires c κs = omega (arith, size (c .before .before))
+
+returns-2 : tie.Need-returns-2
+returns-2 c =
+    let at-end = c .before .before .before in
+    rw (named at-end)
+    (up-to (omega (arith, size at-end)) (c .before .before .push .ensures then c .push-all .ensures))
+
+pub push-name-spec : {M : Type 1} → statement M
+push-name-spec =
+    tie.close
+    (tie.spec
+    returns
+    (λ c κs. search needs)
+    (λ c κs. search needs)
+    (λ c. search needs)
+    slice-aggregate-push-all
+    push-all-requires
+    returns-2)

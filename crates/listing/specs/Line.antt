@@ -1,0 +1,73 @@
+-- The lines of the report, byte by byte, as document 01 has them under "Command tape". Assumes nothing.
+use Prim.Native.Nat.{ℕ}
+use mathlib.Core.List.{List, [], _∷_, _++_}
+use lib.ListN.{take}
+use Rattle.batch.specs.declared.BatchRecord.{BatchRecord}
+use Rattle.network.specs.declared.Answer.{Answer}
+use Rattle.network.specs.declared.Answer.the-variants.{Done, Delivered, Hops, Waiting, Refused}
+use Rattle.network.specs.declared.Reply.{Reply}
+use Rattle.network.specs.Answers.{numberIn}
+use Rattle.listing.specs.Digits.{decimal, hex2, signed}
+
+abbrev pub space : ℕ
+space = 0x20
+
+-- what ends a line
+abbrev pub newline : ℕ
+newline = 0x0A
+
+-- the ten bytes ` delivered`
+abbrev pub deliveredBytes : List ℕ
+deliveredBytes = 0x20 ∷ 0x64 ∷ 0x65 ∷ 0x6C ∷ 0x69 ∷ 0x76 ∷ 0x65 ∷ 0x72 ∷ 0x65 ∷ 0x64 ∷ []
+
+-- the three bytes `end`
+abbrev pub endBytes : List ℕ
+endBytes = 0x65 ∷ 0x6E ∷ 0x64 ∷ []
+
+-- the eight bytes `too long`
+abbrev pub tooLongBytes : List ℕ
+tooLongBytes = 0x74 ∷ 0x6F ∷ 0x6F ∷ 0x20 ∷ 0x6C ∷ 0x6F ∷ 0x6E ∷ 0x67 ∷ []
+
+-- a number after a space
+abbrev pub field : ℕ → List ℕ
+field n = space ∷ decimal n
+
+-- a name after a space, unless it is empty
+abbrev pub nameField : List ℕ → List ℕ
+nameField [] = []
+nameField (byte ∷ bytes) = space ∷ byte ∷ bytes
+
+-- channel, batch number, vessel, temperature, name length and name. A length over the name's 32 cells takes all of them.
+unfoldable pub recordFields : ℕ → BatchRecord → List ℕ
+recordFields channel x =
+    field channel
+    ++ field (x .batch .0)
+    ++ field (x .vessel)
+    ++ (space ∷ signed (x .temperature))
+    ++ field (x .«name_length»)
+    ++ nameField (take (x .«name_length») (x .name))
+
+-- what a delivery has after the refusal's number; any other answer has nothing
+abbrev pub deliveryOf : Answer → BatchRecord → List ℕ
+deliveryOf Done x = []
+deliveryOf (Delivered k) x = deliveredBytes ++ recordFields (k .0) x
+deliveryOf (Hops h) x = []
+deliveryOf (Waiting w) x = []
+deliveryOf (Refused r) x = []
+
+-- a command's line: its number, the command byte, the refusal or 0, the delivery
+unfoldable pub lineOf : ℕ → ℕ → Reply → List ℕ
+lineOf number command reply =
+    decimal number
+    ++ (space ∷ hex2 command)
+    ++ field (numberIn (reply .answer))
+    ++ deliveryOf (reply .answer) (reply .delivered)
+    ++ newline ∷ []
+
+-- the last line: `end`, accepted, refused
+unfoldable pub endOf : ℕ → ℕ → List ℕ
+endOf accepted refused = endBytes ++ field accepted ++ field refused ++ newline ∷ []
+
+-- the only line of a tape that is too long
+unfoldable pub tooLong : List ℕ
+tooLong = tooLongBytes ++ newline ∷ []

@@ -1,0 +1,15 @@
+-- `ring::change::pass_on` meets its contract: the mark is set exactly where a line waits. Assumes nothing.
+use mathlib.Core.Logic.{⊎-elim}
+use borrow.Author.Tests.{lt-ltb, le-ltb}
+use borrow.Author.Needs.{needs}
+use Rattle.ring.proofs.change.pass_on.Statement.{statement}
+use Rattle.ring.proofs.change.pass_on.Tie as tie
+
+returns : tie.Need-returns
+returns c = ⊎-elim (λ w. rw (w .1, lt-ltb 0 _ (w .0 .taken))) (λ w. rw (w .1, le-ltb 0 _ (w .0 .left))) (c .if1 .came)
+
+pub pass-on-spec : {M : Type 1} → statement M
+pass-on-spec =
+    tie.close
+    (tie.spec (λ c. search needs) (λ c. search needs) (λ c. search needs) (λ c. search needs) (λ c. search needs) (λ c. search needs)
+    (λ c. search needs) (λ c. search needs) (λ c. search needs) returns)

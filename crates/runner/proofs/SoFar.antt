@@ -1,0 +1,105 @@
+-- A run into a lent buffer, line by line: what was written so far and what is then to come are together what was to come.
+-- Assumes nothing.
+use Prim.Native.Nat.{ℕ, _+_, _≤_, _<_}
+use mathlib.Core.Path.{_≡_, refl, sym, ap, _∙_}
+use mathlib.Core.Bool.{true, false}
+use mathlib.Core.List.{List, _++_, append-assoc}
+use native.Mathlib.Omega.{arith}
+use lib.ListN.{length, take, drop, length-append}
+use lib.Seq.{take-at, drop-at, drop-drop, length-take-le}
+use Rattle.network.proofs.Cases.{by-same, both-ways}
+use Rattle.tape.specs.Bytes.{overwritten}
+use Rattle.tape.proofs.Buffer.{length-overwritten}
+use Rattle.runner.specs.declared.Session.{Session}
+use Rattle.runner.specs.declared.Progress.{Progress}
+use Rattle.runner.specs.Session.{next}
+use Rattle.runner.specs.Listing.{stopping, toCome}
+use Rattle.runner.specs.Run.{lineRoom, Ran, Placed, Turned, Printing, finished, PrintsTheListing}
+use Rattle.runner.specs.Run
+use Rattle.runner.proofs.Lines.{nothing-after, line-by-line, from-the-beginning, some-line}
+
+-- the loop's invariant: the buffer and the session where the run began, and as they are now
+pub record SoFar (tape before : List ℕ) (first : Session) (out : List ℕ) (current : Session) (written : ℕ) : Type 0 where
+  pub same : length out ≡ length before
+  pub within : written ≤ length before
+  pub text : take written out ++ toCome tape current ≡ toCome tape first
+  pub rest : drop written out ≡ drop written before
+  pub start : written ≡ 0 → current .over ≡ first .over
+
+pub begun : (tape before : List ℕ) (first : Session) → SoFar tape before first before first 0
+begun tape before first =
+    record { same = refl; within = omega arith; text = refl; rest = refl; start = λ e. refl }
+
+-- a line put at a place is what stands before its end, and after that nothing has changed
+module _ {line : List ℕ} {at : ℕ} {before after : List ℕ} {end : ℕ} (p : Placed line at before after end) where
+  front-size : length (take at before ++ line) ≡ end
+  front-size =
+      length-append (take at before) line
+      ∙ ap (λ (n : ℕ). n + length line) (length-take-le at before (omega (arith, p .ends, p .within)))
+      ∙ sym (p .ends)
+
+  front : take end after ≡ take at before ++ line
+  unfolding overwritten
+  front = rw (p .buffer) (take-at (take at before ++ line) (drop (at + length line) before) end front-size)
+
+  back : drop end after ≡ drop (at + length line) before
+  unfolding overwritten
+  back = rw (p .buffer) (drop-at (take at before ++ line) (drop (at + length line) before) end front-size)
+
+  as-long : length after ≡ length before
+  as-long = rw (p .buffer) (length-overwritten before line at (omega (arith, p .ends, p .within)))
+
+module _ {tape before : List ℕ} {first : Session} {out : List ℕ} {s : Session} {at : ℕ} (h : SoFar tape before first out s at)
+    (e : s .over ≡ false) {after : List ℕ} {p : Progress} (t : Turned (next stopping tape s) at out after p) where
+  abbrev size : ℕ
+  size = length (next stopping tape s .line)
+
+  -- one line more
+  pub went-on : SoFar tape before first after (p .session) (p .written)
+  went-on = record {
+    same = as-long (t .line) ∙ h .same;
+    within = omega (arith, t .line .within, h .same);
+    text = rw (front (t .line), append-assoc, t .session, ← (line-by-line tape s e)) (h .text);
+    rest =
+        back (t .line)
+        ∙ sym (drop-drop size at out)
+        ∙ ap (drop size) (h .rest)
+        ∙ drop-drop size at before
+        ∙ ap (λ (n : ℕ). drop n before) (sym (t .line .ends));
+    start = λ z. let no : ⊥ = omega (arith, t .line .ends, some-line stopping tape s) in absurd no;
+  }
+
+  -- and fewer bytes to come
+  pub shorter : length (toCome tape (p .session)) < length (toCome tape s)
+  shorter = rw (t .session, line-by-line tape s e, length-append) (omega (arith, some-line stopping tape s))
+
+-- a run may end as soon as it has written something, or has no line to come or no room for one
+pub ran : {tape before : List ℕ} {first : Session} {out : List ℕ} {s : Session} {at : ℕ} → SoFar tape before first out s at
+    → (first .over ≡ false → lineRoom ≤ length before → at ≡ 0 → ⊥)
+    → Ran tape first before out (record { session = s; written = at })
+ran {at = at} h stuck = record {
+  within = h .within;
+  text = h .text;
+  rest = h .rest;
+  forward = λ e r. by-same at 0 (λ z. absurd (stuck e r z)) λ z. omega arith;
+}
+
+pub ran-over : {tape before : List ℕ} {first : Session} {out : List ℕ} {s : Session} {at : ℕ} → SoFar tape before first out s at
+    → s .over ≡ true → Ran tape first before out (record { session = s; written = at })
+ran-over h e = ran h λ f r z. both-ways e (h .start z ∙ f)
+
+-- For a caller that runs a tape until it is over: each run into a buffer with room for a line leaves fewer bytes to come.
+pub fewer-to-come : {tape before after : List ℕ} {s : Session} {p : Progress} → Ran tape s before after p
+    → length after ≡ length before → s .over ≡ false → lineRoom ≤ length before
+    → length (toCome tape (p .session)) < length (toCome tape s)
+fewer-to-come {tape} {before} {after} {s} {p} r same e room =
+    let size = length-take-le (p .written) after (omega (arith, r .within)) in
+    rw (← (r .text), length-append, size) (omega (arith, r .forward e room))
+
+all-printed : {tape bytes : List ℕ} {s : Session} → Printing tape s bytes → bytes ≡ toCome tape s
+all-printed {tape} {bytes} {s} (finished e) = sym (nothing-after tape s e)
+all-printed {tape} {bytes} {s} (Run.ran {after = after} {p = p} r rest) =
+    ap (λ (l : List ℕ). take (p .written) after ++ l) (all-printed rest) ∙ r .text
+
+pub prints-the-listing : PrintsTheListing
+prints-the-listing tape bytes p = all-printed p ∙ from-the-beginning tape

@@ -1,0 +1,7 @@
+pub mod Called
+pub mod Lending
+pub mod Machine
+pub mod Params
+pub mod Question
+pub mod Types
+pub mod Walk

@@ -1,0 +1,107 @@
+// The ring of a site, held once by its controller and changed in place: the nine ring calls of document 01 on a lent ring. A controller
+// makes one ring by `Ring::fresh()`, keeps it, and lends it to these functions:
+//
+// - while it lays the plan, `add_node`, `add_channel` and then `start`, each of which replies `Done`;
+// - for its tasks, `receive` and `send`, which reply `Done`;
+// - to keep the messages going, `enter` and `move_on`, at any node it likes. They reply `Done`; a move that delivers replies
+//   `Delivered` with the channel, and the record stands beside it in the reply;
+// - to look, `hops_left`, which answers `Hops`, and `waiting_set`, which answers `Waiting`. They only read the ring.
+//
+// Any of them says `Refused` with the first refusal that applies, and then the ring is as it was; an unsound ring is refused by all
+// nine. The same call by value, of the crate `ring`, does the work, and each contract is that call's: what it returns is the whole
+// ring afterwards and the reply. The module `by_value` is for programs and tests.
+pub mod by_value;
+
+use batch::BatchRecord;
+use network::Answer;
+use network::ChannelNo;
+use network::NodeNo;
+use network::Reply;
+use network::Ring;
+ghost use mathlib.Core.Path.{_≡_};
+ghost use Rattle.network.specs.Runs;
+ghost use Rattle.site.specs.InPlace.{ringAfter, replyTo, answerTo};
+
+// Adds a node with so many slots.
+pub fn add_node(ring: &mut Ring, slots: u8) -> Reply
+    ensures { λ r. ⌜ (now (ring .exit) ≡ ringAfter (Runs.addNode slots) (now (ring .entry)))
+        × (r ≡ replyTo (Runs.addNode slots) (now (ring .entry))) ⌝ }
+{
+    let s = ring::plan::add_node(*ring, slots);
+    *ring = s.ring;
+    s.reply
+}
+
+// Adds a channel from one node to another, or to the same.
+pub fn add_channel(ring: &mut Ring, sender: NodeNo, receiver: NodeNo) -> Reply
+    ensures { λ r. ⌜ (now (ring .exit) ≡ ringAfter (Runs.addChannel (sender .0) (receiver .0)) (now (ring .entry)))
+        × (r ≡ replyTo (Runs.addChannel (sender .0) (receiver .0)) (now (ring .entry))) ⌝ }
+{
+    let s = ring::plan::add_channel(*ring, sender, receiver);
+    *ring = s.ring;
+    s.reply
+}
+
+// Ends the plan: from here on the ring runs.
+pub fn start(ring: &mut Ring) -> Reply
+    ensures { λ r. ⌜ (now (ring .exit) ≡ ringAfter Runs.start (now (ring .entry)))
+        × (r ≡ replyTo Runs.start (now (ring .entry))) ⌝ }
+{
+    let s = ring::plan::start(*ring);
+    *ring = s.ring;
+    s.reply
+}
+
+// Asks for a record on a resting channel.
+pub fn receive(ring: &mut Ring, channel: ChannelNo) -> Reply
+    ensures { λ r. ⌜ (now (ring .exit) ≡ ringAfter (Runs.receive (channel .0)) (now (ring .entry)))
+        × (r ≡ replyTo (Runs.receive (channel .0)) (now (ring .entry))) ⌝ }
+{
+    let s = ring::steps::receive(*ring, channel);
+    *ring = s.ring;
+    s.reply
+}
+
+// Offers a record on a channel.
+pub fn send(ring: &mut Ring, channel: ChannelNo, record: BatchRecord) -> Reply
+    ensures { λ r. ⌜ (now (ring .exit) ≡ ringAfter (Runs.send (channel .0) «record») (now (ring .entry)))
+        × (r ≡ replyTo (Runs.send (channel .0) «record») (now (ring .entry))) ⌝ }
+{
+    let s = ring::steps::send(*ring, channel, record);
+    *ring = s.ring;
+    s.reply
+}
+
+// Brings the first of a node's line into its buffer.
+pub fn enter(ring: &mut Ring, node: NodeNo) -> Reply
+    ensures { λ r. ⌜ (now (ring .exit) ≡ ringAfter (Runs.enter (node .0)) (now (ring .entry)))
+        × (r ≡ replyTo (Runs.enter (node .0)) (now (ring .entry))) ⌝ }
+{
+    let s = ring::steps::enter(*ring, node);
+    *ring = s.ring;
+    s.reply
+}
+
+// Moves the first of a node's buffer to the next node.
+pub fn move_on(ring: &mut Ring, node: NodeNo) -> Reply
+    ensures { λ r. ⌜ (now (ring .exit) ≡ ringAfter (Runs.move (node .0)) (now (ring .entry)))
+        × (r ≡ replyTo (Runs.move (node .0)) (now (ring .entry))) ⌝ }
+{
+    let s = ring::steps::move_on(*ring, node);
+    *ring = s.ring;
+    s.reply
+}
+
+// How many hops a channel's message, and the response to it, still have to go.
+pub fn hops_left(ring: &Ring, channel: ChannelNo) -> Answer
+    ensures { λ r. ⌜ r ≡ answerTo (Runs.hopsLeft (channel .0)) (now (ring .entry)) ⌝ }
+{
+    ring::questions::hops_left(*ring, channel)
+}
+
+// The channels on which a node's tasks wait, as a set of bits.
+pub fn waiting_set(ring: &Ring, node: NodeNo) -> Answer
+    ensures { λ r. ⌜ r ≡ answerTo (Runs.waitingSet (node .0)) (now (ring .entry)) ⌝ }
+{
+    ring::questions::waiting_set(*ring, node)
+}
