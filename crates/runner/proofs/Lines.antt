@@ -1,11 +1,10 @@
 -- Laws of the lines to come. The reader either goes on within the tape or stops, so each line leaves fewer to come than before: the
--- count `left` bounds them, and the lines that are allowed are always enough. Counts that stop at the largest number are exact as long
--- as they stay below it, which those of a tape that is run do. Assumes nothing.
+-- count `left` bounds them, and the lines that are allowed are always enough. Assumes nothing.
 use Prim.Native.Nat.{ℕ, zero, suc, _+_, _-_, _≤_, _<_, min}
 use mathlib.Core.Path.{_≡_, refl, sym, ap, _∙_}
 use mathlib.Core.Logic.{_≢_}
 use mathlib.Core.Bool.{true, false, cond}
-use mathlib.Core.List.{List, [], _++_, append-nil}
+use mathlib.Core.List.{List, [], _++_, append-nil, append-assoc}
 use native.Mathlib.Nat.{add-zero, add-suc}
 use native.Mathlib.Omega.{arith}
 use lib.ListN.{length, getD, drop, length-append, length-drop}
@@ -14,7 +13,7 @@ use Rattle.refusal.specs.declared.Refusal.{Refusal}
 use Rattle.network.specs.declared.Step.{Step}
 use Rattle.network.specs.Answers.{stepOf}
 use Rattle.network.specs.Calls.{refused}
-use Rattle.network.proofs.Cases.{by-test, by-same, by-less}
+use Rattle.network.proofs.Cases.{by-test, by-same, by-less, both-ways}
 use Rattle.tape.specs.declared.Command.{Command}
 use Rattle.tape.specs.declared.Reading.{Reading}
 use Rattle.tape.specs.declared.ReadAnswer.{ReadAnswer}
@@ -24,8 +23,8 @@ use Rattle.tape.specs.Tape.{readAt, readRow}
 use Rattle.listing.specs.Line.{lineOf, endOf, tooLong}
 use Rattle.runner.specs.declared.Session.{Session}
 use Rattle.runner.specs.Calls.{callOf, stepRing}
-use Rattle.runner.specs.Session.{longest, beginning, isRefusal, ended, lastLine, passed, answered, nextIn, next, lines, allLines}
-use Rattle.runner.specs.Listing.{byOne, stopping, listingOf, toCome, FromTheBeginning, TooLongAlone, NothingAfter, LineByLine, NotCut}
+use Rattle.runner.specs.Session.{longest, beginning, ended, lastLine, answered, nextIn, next, lines, afterLines, allLines}
+use Rattle.runner.specs.Listing.{byOne, stopping, listingOf, toCome, TooLongAlone, NothingAfter, LineByLine, NotCut}
 
 -- what a reading says of the place after it
 
@@ -134,6 +133,47 @@ module _ (up : ℕ → ℕ) (tape : List ℕ) where
       let few : left tape (next up tape s .session) ≤ length tape + 1 = omega (arith, fewer s e, most-left s) in
       rw (k, one-more s (length tape + 1) e, settled (length tape + 1) (next up tape s .session) few)
 
+  after-over : (n : ℕ) (s : Session) → s .over ≡ true → afterLines up n tape s ≡ s
+  unfolding afterLines
+  after-over zero s e = refl
+  after-over (suc n) s e = rw e
+
+  after-on : (n : ℕ) (s : Session) → s .over ≡ false → afterLines up (suc n) tape s ≡ afterLines up n tape (next up tape s .session)
+  unfolding afterLines
+  after-on n s e = rw e
+
+  -- the session after one line more, and the lines with it
+  abbrev On : ℕ → Session → Type 0
+  On n s = afterLines up n tape s .over ≡ false
+
+  on-next : (n : ℕ) (s : Session) → On (suc n) s → s .over ≡ false → On n (next up tape s .session)
+  on-next n s e o = sym (ap (λ (x : Session). x .over) (after-on n s o)) ∙ e
+
+  ended-off : {X : Type 0} (n : ℕ) (s : Session) → On n s → s .over ≡ true → X
+  ended-off n s e o = both-ways (ap (λ (x : Session). x .over) (after-over n s o) ∙ o) e
+
+  pub last-session : (n : ℕ) (s : Session) → On n s → afterLines up (suc n) tape s ≡ next up tape (afterLines up n tape s) .session
+  unfolding afterLines
+  last-session zero s e = rw e
+  last-session (suc n) s e =
+      by-test (s .over) (ended-off (suc n) s e) λ o.
+      after-on (suc n) s o
+      ∙ last-session n (next up tape s .session) (on-next n s e o)
+      ∙ ap (λ (x : Session). next up tape x .session) (sym (after-on n s o))
+
+  pub last-line : (n : ℕ) (s : Session) → On n s
+      → lines up (suc n) tape s ≡ lines up n tape s ++ next up tape (afterLines up n tape s) .line
+  unfolding afterLines lines
+  last-line zero s e = one-more s 0 e ∙ append-nil (next up tape s .line)
+  last-line (suc n) s e =
+      by-test (s .over) (ended-off (suc n) s e) λ o.
+      let t : Session = next up tape s .session in
+      one-more s (suc n) o
+      ∙ ap (λ (rest : List ℕ). next up tape s .line ++ rest) (last-line n t (on-next n s e o))
+      ∙ sym (append-assoc (next up tape s .line) (lines up n tape t) (next up tape (afterLines up n tape t) .line))
+      ∙ ap (λ (l : List ℕ). l ++ next up tape (afterLines up n tape t) .line) (sym (one-more s n o))
+      ∙ ap (λ (x : Session). lines up (suc n) tape s ++ next up tape x .line) (sym (after-on n s o))
+
   -- no line is empty
   some-line-in : (s : Session) (a : ReadAnswer) (c : Command) → 0 < length (nextIn up tape s a c .line)
   unfolding lineOf endOf
@@ -161,7 +201,7 @@ pub line-by-line : LineByLine
 unfolding toCome
 line-by-line tape s e = by-line stopping tape s e
 
-long-alone : (up : ℕ → ℕ) (tape : List ℕ) → longest < length tape → allLines up tape beginning ≡ tooLong
+pub long-alone : (up : ℕ → ℕ) (tape : List ℕ) → longest < length tape → allLines up tape beginning ≡ tooLong
 long-alone up tape h =
     by-line up tape beginning refl
     ∙ rw (next-too-long up tape beginning h, none-over up tape (ended beginning) (length tape + 2) refl, append-nil)
@@ -169,74 +209,3 @@ long-alone up tape h =
 pub too-long-alone : TooLongAlone
 unfolding listingOf
 too-long-alone tape h = long-alone byOne tape h
-
--- counts that stay below the largest number are the same either way
-
-below : (n : ℕ) → n < 4294967295 → stopping n ≡ n + 1
-unfolding stopping
-below n h = omega arith
-
--- n more commands can be counted
-record Countable (n : ℕ) (s : Session) : Type 0 where
-  numbered : s .number + n ≤ 4294967295
-  accepted : s .accepted + n ≤ 4294967295
-  refused : s .refused + n ≤ 4294967295
-
-module _ (tape : List ℕ) where
-  answered-same : (n : ℕ) (s : Session) (step : Step) (after : ℕ) → Countable (suc n) s
-      → answered byOne tape s step after ≡ answered stopping tape s step after
-  answered-same n s step after k =
-      let a : s .number < 4294967295 = omega (arith, k .numbered) in
-      let b : s .accepted < 4294967295 = omega (arith, k .accepted) in
-      let c : s .refused < 4294967295 = omega (arith, k .refused) in
-      rw (below (s .number) a, below (s .accepted) b, below (s .refused) c)
-
-  same-in : (n : ℕ) (s : Session) (a : ReadAnswer) (c : Command) → Countable (suc n) s
-      → nextIn byOne tape s a c ≡ nextIn stopping tape s a c
-  same-in n s (Read after) c k = answered-same n s (stepRing (callOf c) (s .ring)) after k
-  same-in n s End c k = refl
-  same-in n s (Refused r) c k = answered-same n s (stepOf (s .ring) (refused r)) (length tape) k
-
-  next-same : (n : ℕ) (s : Session) → Countable (suc n) s → next byOne tape s ≡ next stopping tape s
-  next-same n s k =
-      by-less longest (length tape) (λ h. next-too-long byOne tape s h ∙ sym (next-too-long stopping tape s h)) λ h.
-      next-after byOne tape s (readAt tape (s .place)) h refl
-      ∙ same-in n s (readAt tape (s .place) .answer) (readAt tape (s .place) .command) k
-      ∙ sym (next-after stopping tape s (readAt tape (s .place)) h refl)
-
-  answered-countable : (n : ℕ) (s : Session) (step : Step) (after : ℕ) → Countable (suc n) s → Countable n (passed byOne s step after)
-  answered-countable n s step after k =
-      let a : s .number + 1 + n ≤ 4294967295 = omega (arith, k .numbered) in
-      let b : s .accepted + 1 + n ≤ 4294967295 = omega (arith, k .accepted) in
-      let c : s .refused + 1 + n ≤ 4294967295 = omega (arith, k .refused) in
-      by-test (isRefusal (step .reply .answer))
-      (λ e. rw e (record { numbered = a; accepted = omega arith; refused = c }))
-      λ e. rw e (record { numbered = a; accepted = b; refused = omega arith })
-
-  ended-countable : (n : ℕ) (s : Session) → Countable (suc n) s → Countable n (ended s)
-  ended-countable n s k =
-      record { numbered = omega (arith, k .numbered); accepted = omega (arith, k .accepted); refused = omega (arith, k .refused) }
-
-  countable-in : (n : ℕ) (s : Session) (a : ReadAnswer) (c : Command) → Countable (suc n) s
-      → Countable n (nextIn byOne tape s a c .session)
-  countable-in n s (Read after) c k = answered-countable n s (stepRing (callOf c) (s .ring)) after k
-  countable-in n s End c k = ended-countable n s k
-  countable-in n s (Refused r) c k = answered-countable n s (stepOf (s .ring) (refused r)) (length tape) k
-
-  next-countable : (n : ℕ) (s : Session) → Countable (suc n) s → Countable n (next byOne tape s .session)
-  next-countable n s k =
-      by-less longest (length tape) (λ h. rw (next-too-long byOne tape s h) (ended-countable n s k)) λ h.
-      rw (next-after byOne tape s (readAt tape (s .place)) h refl)
-      (countable-in n s (readAt tape (s .place) .answer) (readAt tape (s .place) .command) k)
-
-  lines-same : (n : ℕ) (s : Session) → Countable n s → lines byOne n tape s ≡ lines stopping n tape s
-  unfolding lines
-  lines-same zero s k = refl
-  lines-same (suc n) s k =
-      rw (← (next-same n s k), lines-same n (next byOne tape s .session) (next-countable n s k))
-
-pub from-the-beginning : FromTheBeginning
-unfolding toCome listingOf
-from-the-beginning tape =
-    by-less longest (length tape) (λ h. long-alone stopping tape h ∙ sym (long-alone byOne tape h)) λ h.
-    sym (lines-same tape (length tape + 2) beginning (record { numbered = omega arith; accepted = omega arith; refused = omega arith }))

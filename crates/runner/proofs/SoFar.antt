@@ -1,25 +1,29 @@
 -- A run into a lent buffer, line by line: what was written so far and what is then to come are together what was to come.
 -- Assumes nothing.
-use Prim.Native.Nat.{ℕ, _+_, _≤_, _<_}
+use Prim.Native.Nat.{ℕ, suc, _+_, _≤_, _<_}
 use mathlib.Core.Path.{_≡_, refl, sym, ap, _∙_}
-use mathlib.Core.Bool.{true, false}
+use mathlib.Core.Bool.{false}
 use mathlib.Core.List.{List, _++_, append-assoc}
 use native.Mathlib.Omega.{arith}
 use lib.ListN.{length, take, drop, length-append}
 use lib.Seq.{take-at, drop-at, drop-drop, length-take-le}
-use Rattle.network.proofs.Cases.{by-same, both-ways}
+use Rattle.network.proofs.Cases.{by-same}
 use Rattle.tape.specs.Bytes.{overwritten}
 use Rattle.tape.proofs.Buffer.{length-overwritten}
 use Rattle.runner.specs.declared.Session.{Session}
 use Rattle.runner.specs.declared.Progress.{Progress}
-use Rattle.runner.specs.Session.{next}
+use Rattle.runner.specs.Session.{next, lines, afterLines}
 use Rattle.runner.specs.Listing.{stopping, toCome}
 use Rattle.runner.specs.Run.{lineRoom, Ran, Placed, Turned, Printing, finished, PrintsTheListing}
 use Rattle.runner.specs.Run
-use Rattle.runner.proofs.Lines.{nothing-after, line-by-line, from-the-beginning, some-line}
+use Rattle.runner.proofs.Lines.{nothing-after, line-by-line, some-line, last-session, last-line}
+use Rattle.runner.proofs.Counts.{from-the-beginning}
 
 -- the loop's invariant: the buffer and the session where the run began, and as they are now
 pub record SoFar (tape before : List ℕ) (first : Session) (out : List ℕ) (current : Session) (written : ℕ) : Type 0 where
+  pub count : ℕ
+  pub reached : current ≡ afterLines stopping count tape first
+  pub printed : take written out ≡ lines stopping count tape first
   pub same : length out ≡ length before
   pub within : written ≤ length before
   pub text : take written out ++ toCome tape current ≡ toCome tape first
@@ -27,8 +31,18 @@ pub record SoFar (tape before : List ℕ) (first : Session) (out : List ℕ) (cu
   pub start : written ≡ 0 → current .over ≡ first .over
 
 pub begun : (tape before : List ℕ) (first : Session) → SoFar tape before first before first 0
+unfolding afterLines lines
 begun tape before first =
-    record { same = refl; within = omega arith; text = refl; rest = refl; start = λ e. refl }
+    record {
+      count = 0;
+      reached = refl;
+      printed = refl;
+      same = refl;
+      within = omega arith;
+      text = refl;
+      rest = refl;
+      start = λ e. refl;
+    }
 
 -- a line put at a place is what stands before its end, and after that nothing has changed
 module _ {line : List ℕ} {at : ℕ} {before after : List ℕ} {end : ℕ} (p : Placed line at before after end) where
@@ -54,9 +68,22 @@ module _ {tape before : List ℕ} {first : Session} {out : List ℕ} {s : Sessio
   abbrev size : ℕ
   size = length (next stopping tape s .line)
 
+  on : afterLines stopping (h .count) tape first .over ≡ false
+  on = sym (ap (λ (x : Session). x .over) (h .reached)) ∙ e
+
   -- one line more
   pub went-on : SoFar tape before first after (p .session) (p .written)
   went-on = record {
+    count = suc (h .count);
+    reached =
+        t .session
+        ∙ ap (λ (x : Session). next stopping tape x .session) (h .reached)
+        ∙ sym (last-session stopping tape (h .count) first on);
+    printed =
+        front (t .line)
+        ∙ ap (λ (l : List ℕ). l ++ next stopping tape s .line) (h .printed)
+        ∙ ap (λ (x : Session). lines stopping (h .count) tape first ++ next stopping tape x .line) (h .reached)
+        ∙ sym (last-line stopping tape (h .count) first on);
     same = as-long (t .line) ∙ h .same;
     within = omega (arith, t .line .within, h .same);
     text = rw (front (t .line), append-assoc, t .session, ← (line-by-line tape s e)) (h .text);
@@ -73,20 +100,19 @@ module _ {tape before : List ℕ} {first : Session} {out : List ℕ} {s : Sessio
   pub shorter : length (toCome tape (p .session)) < length (toCome tape s)
   shorter = rw (t .session, line-by-line tape s e, length-append) (omega (arith, some-line stopping tape s))
 
--- a run may end as soon as it has written something, or has no line to come or no room for one
+-- a run may end where the session is over, or there is less room than for the longest line
 pub ran : {tape before : List ℕ} {first : Session} {out : List ℕ} {s : Session} {at : ℕ} → SoFar tape before first out s at
-    → (first .over ≡ false → lineRoom ≤ length before → at ≡ 0 → ⊥)
-    → Ran tape first before out (record { session = s; written = at })
-ran {at = at} h stuck = record {
-  within = h .within;
-  text = h .text;
+    → (s .over ≡ false → length before < at + lineRoom) → Ran tape first before out (record { session = s; written = at })
+ran {at = at} h full = record {
+  count = h .count;
+  session = h .reached;
+  printed = h .printed;
   rest = h .rest;
-  forward = λ e r. by-same at 0 (λ z. absurd (stuck e r z)) λ z. omega arith;
+  within = h .within;
+  full = full;
+  forward = λ e r. by-same at 0 (λ z. omega (arith, full (h .start z ∙ e))) λ z. omega arith;
+  text = h .text;
 }
-
-pub ran-over : {tape before : List ℕ} {first : Session} {out : List ℕ} {s : Session} {at : ℕ} → SoFar tape before first out s at
-    → s .over ≡ true → Ran tape first before out (record { session = s; written = at })
-ran-over h e = ran h λ f r z. both-ways e (h .start z ∙ f)
 
 -- For a caller that runs a tape until it is over: each run into a buffer with room for a line leaves fewer bytes to come.
 pub fewer-to-come : {tape before after : List ℕ} {s : Session} {p : Progress} → Ran tape s before after p

@@ -1,5 +1,5 @@
--- What a run into a lent buffer does: whole lines, the first of those to come, from the buffer's beginning. How many lines are written
--- at a time is left free: as long as there is room for the longest. Assumes nothing.
+-- What a run into a lent buffer does: it writes whole lines, the first of those to come, from the buffer's beginning. Document 01 leaves
+-- free how many are written at a time. Assumes nothing.
 use Prim.Native.Nat.{ℕ, _+_, _<_, _≤_}
 use mathlib.Core.Path.{_≡_}
 use mathlib.Core.Bool.{true, false}
@@ -10,20 +10,25 @@ use Rattle.listing.specs.declared.Put.{Put}
 use Rattle.listing.specs.declared.Put.the-variants.{Written, NoRoom}
 use Rattle.runner.specs.declared.Session.{Session}
 use Rattle.runner.specs.declared.Progress.{Progress}
-use Rattle.runner.specs.Session.{Printed, beginning}
-use Rattle.runner.specs.Listing.{listingOf, toCome}
+use Rattle.runner.specs.Session.{Printed, beginning, lines, afterLines}
+use Rattle.runner.specs.Listing.{listingOf, stopping, toCome}
 
 -- no line is longer
 abbrev pub lineRoom : ℕ
 lineRoom = 128
 
--- A run of a tape from session s. What was written and what is then to come are together what was to come; the rest of the buffer is
--- as it was; and where there is room for a line and one to come, something is written.
+-- A run of a tape from session s: the next `count` lines, at the front of the buffer, and the session after them; the rest of the buffer
+-- is as it was. The run ends only where the session is over or there is less room than for the longest line, so something is written
+-- where there is room and a line to come. What was written and what is then to come are together what was to come.
 pub record Ran (tape : List ℕ) (s : Session) (before after : List ℕ) (p : Progress) : Type 0 where
-  pub within : p .written ≤ length before
-  pub text : take (p .written) after ++ toCome tape (p .session) ≡ toCome tape s
+  pub count : ℕ
+  pub session : p .session ≡ afterLines stopping count tape s
+  pub printed : take (p .written) after ≡ lines stopping count tape s
   pub rest : drop (p .written) after ≡ drop (p .written) before
+  pub within : p .written ≤ length before
+  pub full : p .session .over ≡ false → length before < p .written + lineRoom
   pub forward : s .over ≡ false → lineRoom ≤ length before → 0 < p .written
+  pub text : take (p .written) after ++ toCome tape (p .session) ≡ toCome tape s
 
 -- Runs of a tape one after the other, each from the session that the one before left, until it is over; the bytes are all that they
 -- wrote.

@@ -93,6 +93,11 @@ module _ (up : ℕ → ℕ) where
   lines zero tape s = []
   lines (suc n) tape s = cond (s .over) [] (next tape s .line ++ lines n tape (next tape s .session))
 
+  -- the session after the next n lines
+  unfoldable pub afterLines : ℕ → List ℕ → Session → Session
+  afterLines zero tape s = s
+  afterLines (suc n) tape s = cond (s .over) s (afterLines n tape (next tape s .session))
+
   -- all lines from here on: there are no more than a line for each byte, one for a place beyond the tape, and the last
   abbrev pub allLines : List ℕ → Session → List ℕ
   allLines tape s = lines (length tape + 2) tape s

@@ -8,6 +8,7 @@ use network::Ring;
 ghost use mathlib.Core.Path.{_≡_};
 ghost use Prim.Native.Nat.{_≤_};
 ghost use lib.ListN.{length, take};
+ghost use Rattle.hops.specs.Hops.{sheetHops};
 ghost use Rattle.network.specs.Counting.{allOf};
 ghost use Rattle.network.specs.Network.{slotCount};
 ghost use Rattle.network.specs.Layout.{view, isBlankNode, isBlankChannel, soundRing};
@@ -275,6 +276,26 @@ fn routes_of(channels: [Channel; 64]) -> Routes
     }
 }
 
+// Hops from node p to node q, worked out and not read off the hop table: this test is made in every call, and an entry of the table
+// costs far more than a sum. The two agree at every value.
+fn distance(n: u8, p: u8, q: u8) -> u8
+    ensures { λ r. ⌜ r ≡ sheetHops n p q ⌝ }
+{
+    if 16 < n {
+        return 0;
+    }
+    if n <= p {
+        return 0;
+    }
+    if n <= q {
+        return 0;
+    }
+    if p < q {
+        return q - p;
+    }
+    n - p + q
+}
+
 // Whether a message may stand in a place: in a line at its node of entry, in a buffer no further from its target than the entry is.
 fn may_stand(place: Place, entry: u8, target: u8) -> bool
     ensures { λ r. ⌜ r ≡ mayStand place entry target ⌝ }
@@ -284,8 +305,8 @@ fn may_stand(place: Place, entry: u8, target: u8) -> bool
     if place.line {
         return node == entry;
     }
-    let left = hops::hops(node_count, node, target);
-    let whole = hops::hops(node_count, entry, target);
+    let left = distance(node_count, node, target);
+    let whole = distance(node_count, entry, target);
     left <= whole
 }
 

@@ -6,6 +6,7 @@ use mathlib.Core.Bool.{cond}
 use mathlib.Core.List.{List}
 use lib.Dec.{eqb, ltb}
 use lib.ListN.{length, getD, drop}
+use Rattle.refusal.specs.Number.{numberOf}
 use Rattle.refusal.specs.declared.Refusal.{Refusal}
 use Rattle.refusal.specs.declared.Refusal.the-variants.{UnknownCommand, CommandCut, PlaceBeyondEnd, NoRoomToWrite}
 use Rattle.tape.specs.declared.Action.the-variants.{Start}
@@ -48,3 +49,13 @@ writeAt bytes place c =
 unfoldable pub afterWrite : Writing → List ℕ → ℕ → Command → List ℕ
 afterWrite (writing.Written next) bytes place c = overwritten bytes place (bytesOf c)
 afterWrite (writing.Refused r) bytes place c = bytes
+
+-- document 01's number for each case of an answer: that of the refusal, or 0
+abbrev pub readNumber : ReadAnswer → ℕ
+readNumber (Read next) = 0
+readNumber End = 0
+readNumber (answer.Refused r) = numberOf r
+
+abbrev pub writeNumber : Writing → ℕ
+writeNumber (writing.Written next) = 0
+writeNumber (writing.Refused r) = numberOf r

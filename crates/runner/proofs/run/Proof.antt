@@ -2,8 +2,9 @@
 use native.Mathlib.Omega.{arith}
 use borrow.Author.Tests.{not-true, not-false}
 use lib.ListN.{length}
+use Rattle.network.proofs.Cases.{both-ways}
 use Rattle.runner.specs.Listing.{toCome}
-use Rattle.runner.proofs.SoFar.{SoFar, begun, went-on, shorter, ran, ran-over}
+use Rattle.runner.proofs.SoFar.{SoFar, begun, went-on, shorter, ran}
 use Rattle.runner.proofs.run.Statement.{statement}
 use Rattle.runner.proofs.run.Tie as tie
 
@@ -38,13 +39,13 @@ same-length : tie.Need-same-length Inv-loop μ-loop
 same-length c = c .before .before .loop .inv .same
 
 returns : tie.Need-returns Inv-loop μ-loop
-returns c = ran-over (c .before .before .loop .inv) (not-false _ (c .if1 .left))
+returns c = ran (c .before .before .loop .inv) (both-ways (not-false _ (c .if1 .left)))
 
 same-length-2 : tie.Need-same-length-2 Inv-loop μ-loop
 same-length-2 c = c .before .before .before .loop .inv .same
 
 returns-2 : tie.Need-returns-2 Inv-loop μ-loop
-returns-2 c = ran (c .before .before .before .loop .inv) λ e r z. omega arith
+returns-2 c = ran (c .before .before .before .loop .inv) λ e. omega arith
 
 pub run-spec : {M : Type 1} → statement M
 run-spec =
