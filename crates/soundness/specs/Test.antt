@@ -19,6 +19,10 @@ use Rattle.soundness.specs.declared.Routes.{Routes}
 use Rattle.soundness.specs.declared.Place.{Place}
 use Rattle.soundness.specs.Marks.{passes, marksAfter}
 
+-- the slots of a node in the array
+abbrev pub slotsAt : List Node → ℕ → ℕ
+slotsAt nodes p = getD nodes p blankNode .slots
+
 abbrev pub isZero : ℕ → Bool
 isZero x = eqb x 0
 

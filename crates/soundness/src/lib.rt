@@ -9,12 +9,12 @@ ghost use mathlib.Core.Path.{_≡_};
 ghost use Prim.Native.Nat.{_≤_};
 ghost use lib.ListN.{length, take};
 ghost use Rattle.hops.specs.Hops.{sheetHops};
-ghost use Rattle.network.specs.Counting.{allOf};
+ghost use Rattle.network.specs.Counting.{sum, allOf};
 ghost use Rattle.network.specs.Network.{slotCount};
 ghost use Rattle.network.specs.Layout.{view, isBlankNode, isBlankChannel, soundRing};
 ghost use Rattle.soundness.specs.Marks.{cellFits, passes, marked, marksAfter, Passed};
 ghost use Rattle.soundness.specs.Test.{recordFits, phaseFits, usedChannel, channelFits, channelsFit, usedNode, nodeFits, nodesFit};
-ghost use Rattle.soundness.specs.Test.{isZero, entryCell, targetCell, movingCell, routesOf, mayStand, fitsIn, rowFits, usedOf, usedCells};
+ghost use Rattle.soundness.specs.Test.{slotsAt, isZero, entryCell, targetCell, movingCell, routesOf, mayStand, fitsIn, rowFits, usedOf, usedCells};
 ghost use Rattle.soundness.specs.Test.{rowsFit, marksFit, messagesFit, startFits};
 
 // Where every channel's message enters the ring, where it is taken, and 1 where it is on the ring now: a table for each, by channel.
@@ -510,13 +510,11 @@ fn messages_fit(ring: Ring) -> bool
     marks_fit(channel_count, &seen, &moving)
 }
 
-// b of document 01: the slots of all nodes.
-pub fn slot_count(ring: Ring) -> usize
-    requires { ⌜ ring .«node_count» ≤ 16 ⌝ }
-    ensures { λ r. ⌜ r ≡ slotCount (view ring) ⌝ }
+// The slots of the first `count` nodes.
+fn slots_below(nodes: [Node; 16], count: usize) -> usize
+    requires { ⌜ count ≤ 16 ⌝ }
+    ensures { λ r. ⌜ r ≡ sum count (slotsAt nodes) ⌝ }
 {
-    let count = ring.node_count as usize;
-    let nodes = ring.nodes;
     let mut total: usize = 0;
     let mut p = 0;
     while p < count {
@@ -525,6 +523,18 @@ pub fn slot_count(ring: Ring) -> usize
         p += 1;
     }
     total
+}
+
+// b of document 01: the slots of all nodes, of which there are no more than can be read.
+pub fn slot_count(ring: Ring) -> usize
+    ensures { λ r. ⌜ r ≡ slotCount (view ring) ⌝ }
+{
+    let count = ring.node_count as usize;
+    let nodes = ring.nodes;
+    if 16 < count {
+        return slots_below(nodes, 16);
+    }
+    slots_below(nodes, count)
 }
 
 // Started: n and c at least 1 and b greater than c. Not started: no deliveries; the rest is said of each channel and node.

@@ -1,85 +1,56 @@
--- `soundness::slot_count` meets its contract. The invariant: the total is the slots of the nodes passed. Assumes nothing.
-use Prim.Native.Nat.{ℕ, _*_, _-_, _≤_, _<_}
-use mathlib.Core.Path.{_≡_, sym, ap, _∙_}
-use native.Mathlib.Omega.{arith}
+-- `soundness::slot_count` meets its contract: beyond the sixteen nodes that there are no slot is read. Assumes nothing.
+use Prim.Native.Nat.{ℕ, zero, suc, _≤_, _<_}
+use mathlib.Core.Path.{_≡_, refl, sym, ap, _∙_}
 use mathlib.Core.List.{List}
-use lib.ListN.{getD}
+use native.Mathlib.Nat.{not-suc-le-zero}
+use native.Mathlib.Omega.{arith}
+use lib.ListN.{length, length-map, List·getD-eq-default}
 use borrow.Author.Needs.{needs}
 use Rattle.network.specs.declared.Node.{Node}
-use Rattle.network.specs.declared.Ring.{Ring}
 use Rattle.network.specs.Counting.{sum}
 use Rattle.network.specs.Layout.{blankNode}
-use Rattle.soundness.proofs.Loops.{sum-start, sum-more}
+use Rattle.network.proofs.Cases.{by-same}
+use Rattle.soundness.specs.Test.{slotsAt}
 use Rattle.soundness.proofs.View.{slot-count-of}
 use Rattle.soundness.proofs.slot_count.Statement.{statement}
 use Rattle.soundness.proofs.slot_count.Tie as tie
 
-abbrev slotsOf : List Node → ℕ → ℕ
-slotsOf ds p = getD ds p blankNode .slots
+-- a sum goes no further than its terms that are not 0
+sum-beyond : (n m : ℕ) (f : ℕ → ℕ) → n ≤ m → ((p : ℕ) → n ≤ p → f p ≡ 0) → sum m f ≡ sum n f
+unfolding sum
+sum-beyond zero zero f l none = refl
+sum-beyond (suc n) zero f l none = absurd (not-suc-le-zero l)
+sum-beyond n (suc m) f l none =
+    by-same n (suc m) (λ e. rw e) (λ d. omega (arith, sum-beyond n m f (omega arith) none, none m (omega arith)))
 
-abbrev Inv-loop : tie.InvT-loop
-Inv-loop count nodes total₀ p₀ total p =
-    (p ≤ count) × (total ≤ 255 * p) × (total ≡ sum p (slotsOf nodes))
+no-slots-beyond : (nodes : List Node) (p : ℕ) → length nodes ≤ p → slotsAt nodes p ≡ 0
+no-slots-beyond nodes p l = ap (λ d. d .slots) (List·getD-eq-default nodes blankNode l)
 
-abbrev μ-loop : tie.MeasureT-loop
-μ-loop count nodes total₀ p₀ total p = count - p
+-- the array of nodes is as long as its type says
+all-nodes : (c : tie.Start) → length (c .args .ring .nodes) ≡ 16
+all-nodes c = sym (length-map (c .args .ring .nodes) _) ∙ c .good .0 .1 .1 .1 .1 .1 .0 .1 .0 .1
 
-cast-count : tie.Need-cast-count Inv-loop μ-loop
+cast-count : tie.Need-cast-count
 cast-count c = search needs
 
-loop-holds : tie.Need-loop-holds Inv-loop μ-loop
-loop-holds c = (omega arith, omega arith, sym (sum-start _))
+slots-below-requires : tie.Need-slots-below-requires
+slots-below-requires c κs = search needs
 
-mul-node : tie.Need-mul-node Inv-loop μ-loop
-mul-node c = omega (arith, c .before .before .before .before .pre)
-
-array-copy-out-node : tie.Need-array-copy-out-node Inv-loop μ-loop
-array-copy-out-node c = omega (arith, c .before .before .before .before .pre)
-
-abbrev given : tie.After-struct-known2 Inv-loop μ-loop → Ring
-given c = c .before .before .before .before .before .before .args .ring
-
-few : (c : tie.After-struct-known2 Inv-loop μ-loop) → slotsOf (given c .nodes) (c .before .before .before .loop .p) < 256
-few c = c .struct-known2 .given .0 .fits
-
-cast-total : tie.Need-cast-total Inv-loop μ-loop
-cast-total c = search needs
-
-add-total : tie.Need-add-total Inv-loop μ-loop
-add-total c = omega (arith, few c, c .before .before .before .before .before .before .pre)
-
-add-p : tie.Need-add-p Inv-loop μ-loop
-add-p c = omega (arith, c .before .before .before .before .before .before .pre)
-
-loop-less : tie.Need-loop-less Inv-loop μ-loop
-loop-less c = omega arith
-
-loop-again : tie.Need-loop-again Inv-loop μ-loop
-loop-again c =
-    let l = c .before .before .before .loop in
-    (omega arith, omega (arith, few c), omega (arith, sum-more (slotsOf (given c .nodes)) (l .p)))
-
-returns : tie.Need-returns Inv-loop μ-loop
+returns : tie.Need-returns
 returns c =
-    let l = c .before .loop in
-    let done : l .p ≡ c .before .before .before .before .args .ring .«node_count» = omega arith in
-    l .inv .2
-    ∙ ap (λ p. sum p (slotsOf (c .before .before .before .before .args .ring .nodes))) done
-    ∙ sym (slot-count-of (c .before .before .before .before .args .ring))
+    let start = c .before .before .before .before in
+    let ring = start .args .ring in
+    c .slots-below .ensures
+    ∙ sym (sum-beyond 16 (ring .«node_count») (slotsAt (ring .nodes)) (omega arith)
+    (λ p l. no-slots-beyond (ring .nodes) p (omega (arith, all-nodes start))))
+    ∙ sym (slot-count-of ring)
+
+slots-below-requires-2 : tie.Need-slots-below-requires-2
+slots-below-requires-2 c κs = search needs
+
+returns-2 : tie.Need-returns-2
+returns-2 c = c .slots-below2 .ensures ∙ sym (slot-count-of (c .before .before .before .before .args .ring))
 
 pub slot-count-spec : {M : Type 1} → statement M
 slot-count-spec =
-    tie.close
-    (tie.spec
-    Inv-loop
-    μ-loop
-    cast-count
-    loop-holds
-    mul-node
-    array-copy-out-node
-    cast-total
-    add-total
-    add-p
-    loop-less
-    loop-again
-    returns)
+    tie.close (tie.spec cast-count slots-below-requires returns slots-below-requires-2 returns-2)

@@ -31,7 +31,7 @@ returns-4 c =
     (start-no-channel _ (ok (idle .before .before)) (idle .if2 .left) (omega arith) (omega arith))
 
 slot-count-requires : tie.Need-slot-count-requires
-slot-count-requires c κs = opened _ (ok (c .before .before .before .before)) .layout .nodes-within
+slot-count-requires c κs = search needs
 
 returns-5 : tie.Need-returns-5
 returns-5 c =
