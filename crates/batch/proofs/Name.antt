@@ -1,16 +1,19 @@
 -- A name's cells judged one at a time, as a loop meets them: what is said of the cells from i on is said of cell i and of those after it.
+-- The loops go to their end and keep whether all was right so far.
 -- Assumes nothing.
-use mathlib.Core.Path.{_≡_, refl}
-use mathlib.Core.Bool.{Bool, true, false, _&&_, and-assoc}
+use mathlib.Core.Path.{_≡_, refl, _∙_}
+use mathlib.Core.Bool.{Bool, true, false, cond, _&&_, and-assoc, and-eq-true-iff}
 use mathlib.Core.List.{List, [], _∷_}
-use Prim.Native.Nat.{ℕ, zero, suc, _+_, _-_, _≤_, _<_}
+use Prim.Native.Nat.{ℕ, zero, suc, _+_, _-_, _<_}
 use native.Mathlib.Numerals.{add-one}
 use native.Mathlib.Omega.{arith}
 use lib.ListN.{length, getD, take, drop}
-use native.Mathlib.Nat.{sub-zero}
-use borrow.Author.Tests.{le-leb, lt-leb}
+use native.Mathlib.Nat.{sub-zero, add-zero, not-suc-le-zero}
+use borrow.Author.Tests.{ltb-true, ltb-false, eqb-true}
+use lib.Dec.{eqb, ltb}
 use lib.Seq.{drop-cons, drop-length}
-use Rattle.batch.specs.Good.{firstCharacter, lastCharacter, every, isZero, isCharacter, nameCellsGood}
+use Rattle.batch.specs.Good.{every, isZero, isCharacter, nameCellsGood}
+use Rattle.batch.proofs.Good.{by-test}
 
 -- the cells from i on are good, for a name of n characters
 abbrev pub goodFrom : ℕ → List ℕ → ℕ → Bool
@@ -25,17 +28,23 @@ fill-first : (b : ℕ) (cells : List ℕ) → nameCellsGood 0 (b ∷ cells) ≡ 
 unfolding nameCellsGood
 fill-first b cells = refl
 
-module _ (n : ℕ) (cells : List ℕ) (i : ℕ) (inside : i < length cells) where
-  pub goodFrom-character : i < n → goodFrom n cells i ≡ isCharacter (getD cells i 0) && goodFrom n cells (i + 1)
-  goodFrom-character h =
-      let e : n - i ≡ suc (n - (i + 1)) = omega arith in
-      rw (e, add-one i, drop-cons cells i 0) (character-first _ _ _)
+pub goodFrom-more : (n : ℕ) (cells : List ℕ) (i : ℕ) → i < length cells →
+    goodFrom n cells i ≡ cond (ltb i n) (isCharacter (getD cells i 0)) (isZero (getD cells i 0)) && goodFrom n cells (i + 1)
+goodFrom-more n cells i inside =
+    by-test (ltb i n)
+    (λ t.
+    let l = ltb-true i n t in
+    let e : n - i ≡ suc (n - (i + 1)) = omega arith in
+    rw (t, e, add-one i, drop-cons cells i 0) (character-first _ _ _))
+    (λ t.
+    let l = ltb-false i n t in
+    let e : n - i ≡ 0 = omega arith in
+    let e' : n - (i + 1) ≡ 0 = omega arith in
+    rw (t, e, e', add-one i, drop-cons cells i 0) (fill-first _ _))
 
-  pub goodFrom-fill : n ≤ i → goodFrom n cells i ≡ isZero (getD cells i 0) && goodFrom n cells (i + 1)
-  goodFrom-fill h =
-      let e : n - i ≡ 0 = omega arith in
-      let e' : n - (i + 1) ≡ 0 = omega arith in
-      rw (e, e', add-one i, drop-cons cells i 0) (fill-first _ _)
+pub every-more : (f : ℕ → Bool) (cells : List ℕ) (i : ℕ) → i < length cells →
+    every f (drop i cells) ≡ f (getD cells i 0) && every f (drop (i + 1) cells)
+every-more f cells i inside = rw (add-one i, drop-cons cells i 0)
 
 pub goodFrom-start : (n : ℕ) (cells : List ℕ) → nameCellsGood n cells ≡ goodFrom n cells 0
 goodFrom-start n cells = rw (sub-zero n)
@@ -48,12 +57,32 @@ no-cell (suc n) = refl
 pub goodFrom-end : (n : ℕ) (cells : List ℕ) → goodFrom n cells (length cells) ≡ true
 goodFrom-end n cells = rw (drop-length cells) (no-cell _)
 
--- a byte that is no character
-pub too-low : (b : ℕ) → b < firstCharacter → isCharacter b ≡ false
-too-low b h = rw (lt-leb firstCharacter b h)
+-- a turn: the whole is what was found so far, this cell and the cells to come
+module _ {whole : Bool} (before here later : Bool) where
+  pub turn-wrong : whole ≡ before && (here && later) → here ≡ false → whole ≡ false
+  turn-wrong e wrong = by-test before (λ b. e ∙ rw (b, wrong)) (λ b. e ∙ rw b)
 
-pub too-high : (b : ℕ) → firstCharacter ≤ b → lastCharacter < b → isCharacter b ≡ false
-too-high b l h = rw (le-leb firstCharacter b l, lt-leb b lastCharacter h)
+  pub turn-right : whole ≡ before && (here && later) → here ≡ true → whole ≡ before && later
+  turn-right e right = e ∙ rw right
 
-pub between : (b : ℕ) → firstCharacter ≤ b → b ≤ lastCharacter → isCharacter b ≡ true
-between b l h = rw (le-leb firstCharacter b l, le-leb b lastCharacter h)
+-- the end: no cell is to come
+pub turn-end : {whole : Bool} (before rest : Bool) → whole ≡ before && rest → rest ≡ true → whole ≡ before
+turn-end before rest e none = by-test before (λ b. e ∙ rw (b, none)) (λ b. e ∙ rw b)
+
+-- a table that has at each place the place, by a test that is computed over the whole of it
+pub record CountsUp (xs : List ℕ) : Type 0 where
+  pub at : (k : ℕ) → k < length xs → getD xs k 0 ≡ k
+
+abbrev pub countsFrom : ℕ → List ℕ → Bool
+countsFrom i [] = true
+countsFrom i (x ∷ xs) = eqb x i && countsFrom (suc i) xs
+
+counted-from : (i : ℕ) (xs : List ℕ) → countsFrom i xs ≡ true → (k : ℕ) → k < length xs → getD xs k 0 ≡ i + k
+counted-from i [] t k h = absurd (not-suc-le-zero h)
+counted-from i (x ∷ xs) t zero h = rw add-zero (eqb-true x i (and-eq-true-iff (eqb x i) (countsFrom (suc i) xs) .0 t .0))
+counted-from i (x ∷ xs) t (suc k) h =
+    let later = counted-from (suc i) xs (and-eq-true-iff (eqb x i) (countsFrom (suc i) xs) .0 t .1) k (omega arith) in
+    omega (arith, later)
+
+pub counted : (xs : List ℕ) → countsFrom 0 xs ≡ true → CountsUp xs
+counted xs t = record { at = λ k h. omega (arith, counted-from 0 xs t k h) }

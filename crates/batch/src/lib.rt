@@ -3,7 +3,8 @@
 // with the first refusal that applies. The limits of document 01 are constants of the record; a name has 32 cells.
 use refusal::Refusal;
 ghost use mathlib.Core.Path.{_≡_};
-ghost use Rattle.batch.specs.Good.{nameCellsGood, verdictOf, goodRecord};
+ghost use mathlib.Core.Bool.{cond};
+ghost use Rattle.batch.specs.Good.{every, isZero, isCharacter, nameCellsGood, verdictOf, goodRecord};
 ghost use Rattle.batch.specs.Blank.{noRecord, blankRecord};
 ghost use Rattle.batch.specs.Same.{sameBatch};
 
@@ -52,27 +53,86 @@ impl BatchRecord {
     }
 }
 
-// Whether the first `length` cells are characters and the rest zeros: one pass over the cells.
-fn name_cells_good(length: u8, name: [u8; 32]) -> bool
-    ensures { λ r. ⌜ r ≡ nameCellsGood length name ⌝ }
+// The place of each cell of a name, as bytes: they tell the characters from the fill in many cells at once.
+const PLACES: [u8; 32] = [
+    0,
+    1,
+    2,
+    3,
+    4,
+    5,
+    6,
+    7,
+    8,
+    9,
+    10,
+    11,
+    12,
+    13,
+    14,
+    15,
+    16,
+    17,
+    18,
+    19,
+    20,
+    21,
+    22,
+    23,
+    24,
+    25,
+    26,
+    27,
+    28,
+    29,
+    30,
+    31,
+];
+
+// Whether all the cells are zero. Nothing leaves the loop early, so the compiler tests many cells at once.
+pub fn all_zero(cells: &[u8]) -> bool
+    ensures { λ r. ⌜ r ≡ every isZero (now (cells .entry)) ⌝ }
 {
-    let characters = length as usize;
+    let mut zero = true;
     let mut i = 0;
-    while i < 32 {
-        let cell = name[i];
-        if i < characters {
-            if cell < BatchRecord::FIRST_CHARACTER {
-                return false;
-            }
-            if BatchRecord::LAST_CHARACTER < cell {
-                return false;
-            }
-        } else if cell != 0 {
-            return false;
+    while i < cells.len() {
+        if cells[i] != 0 {
+            zero = false;
         }
         i += 1;
     }
-    true
+    zero
+}
+
+// Whether a cell of a name is what stands in its place: a character or the fill.
+fn cell_good(character: bool, cell: u8) -> bool
+    ensures { λ r. ⌜ r ≡ cond character (isCharacter cell) (isZero cell) ⌝ }
+{
+    if !character {
+        return cell == 0;
+    }
+    if cell < BatchRecord::FIRST_CHARACTER {
+        return false;
+    }
+    cell <= BatchRecord::LAST_CHARACTER
+}
+
+// Whether the first `length` cells are characters and the rest zeros. The wrong cells are counted, many at once: nothing leaves the loop
+// early.
+fn name_cells_good(length: u8, name: [u8; 32]) -> bool
+    ensures { λ r. ⌜ r ≡ nameCellsGood length name ⌝ }
+{
+    let places = PLACES;
+    let mut wrong: u8 = 0;
+    let mut i = 0;
+    while i < 32 {
+        let cell = name[i];
+        if !cell_good(places[i] < length, cell) {
+            wrong += 1;
+        }
+        i += 1;
+    }
+    wrong == 0
 }
 
 // The first refusal that applies, in the order of document 01.
@@ -113,7 +173,7 @@ pub fn is_good(record: BatchRecord) -> bool
     }
 }
 
-// Whether every field is zero. A name of no characters has zeros in all its cells.
+// Whether every field is zero.
 pub fn is_blank(record: BatchRecord) -> bool
     ensures { λ r. ⌜ r ≡ blankRecord «record» ⌝ }
 {
@@ -134,7 +194,7 @@ pub fn is_blank(record: BatchRecord) -> bool
     if name_length != 0 {
         return false;
     }
-    name_cells_good(0, name)
+    all_zero(&name)
 }
 
 // Whether two records are of one batch: by their batch numbers alone, whatever their names.

@@ -80,10 +80,9 @@ module _ (up : ℕ → ℕ) (tape : List ℕ) where
       → next up tape s ≡ lastLine (endOf (s .accepted) (s .refused)) s
   next-end {s} {r} h a = next-after s r (h .short) (h .reading) ∙ ap (λ (x : ReadAnswer). nextIn up tape s x (r .command)) a
 
-  pub next-refused : {s : Session} {r : Reading} {step : Step} {x : Refusal} → Reads tape s r → r .answer ≡ Refused x
-      → step ≡ stepOf (s .ring) (refused x) → next up tape s ≡ answered up tape s step (length tape)
-  next-refused {s} {r} h a e =
-      next-after s r (h .short) (h .reading) ∙ ap (λ (x : ReadAnswer). nextIn up tape s x (r .command)) a ∙ rw e
+  pub next-refused : {s : Session} {r : Reading} {x : Refusal} → Reads tape s r → r .answer ≡ Refused x
+      → next up tape s ≡ answered up tape s (stepOf (s .ring) (refused x)) (length tape)
+  next-refused {s} {r} h a = next-after s r (h .short) (h .reading) ∙ ap (λ (x : ReadAnswer). nextIn up tape s x (r .command)) a
 
   fewer-in : (s : Session) (a : ReadAnswer) (c : Command) → s .over ≡ false → Ahead tape (s .place) a
       → left tape (nextIn up tape s a c .session) < left tape s

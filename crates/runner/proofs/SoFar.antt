@@ -12,9 +12,9 @@ use Rattle.tape.specs.Bytes.{overwritten}
 use Rattle.tape.proofs.Buffer.{length-overwritten}
 use Rattle.runner.specs.declared.Session.{Session}
 use Rattle.runner.specs.declared.Progress.{Progress}
-use Rattle.runner.specs.Session.{next, lines, afterLines}
+use Rattle.runner.specs.Session.{Printed, next, lines, afterLines}
 use Rattle.runner.specs.Listing.{stopping, toCome}
-use Rattle.runner.specs.Run.{lineRoom, Ran, Placed, Turned, Printing, finished, PrintsTheListing}
+use Rattle.runner.specs.Run.{lineRoom, Ran, Placed, Printing, finished, PrintsTheListing}
 use Rattle.runner.specs.Run
 use Rattle.runner.proofs.Lines.{nothing-after, line-by-line, some-line, last-session, last-line}
 use Rattle.runner.proofs.Counts.{from-the-beginning}
@@ -63,8 +63,13 @@ module _ {line : List ℕ} {at : ℕ} {before after : List ℕ} {end : ℕ} (p :
   as-long : length after ≡ length before
   as-long = rw (p .buffer) (length-overwritten before line at (omega (arith, p .ends, p .within)))
 
+-- what was printed: the session after it, and its line put at a place of the buffer
+pub record Turned (printed : Printed) (at : ℕ) (before after : List ℕ) (s : Session) (end : ℕ) : Type 0 where
+  pub session : s ≡ printed .session
+  pub line : Placed (printed .line) at before after end
+
 module _ {tape before : List ℕ} {first : Session} {out : List ℕ} {s : Session} {at : ℕ} (h : SoFar tape before first out s at)
-    (e : s .over ≡ false) {after : List ℕ} {p : Progress} (t : Turned (next stopping tape s) at out after p) where
+    (e : s .over ≡ false) {after : List ℕ} {s' : Session} {end : ℕ} (t : Turned (next stopping tape s) at out after s' end) where
   abbrev size : ℕ
   size = length (next stopping tape s .line)
 
@@ -72,7 +77,7 @@ module _ {tape before : List ℕ} {first : Session} {out : List ℕ} {s : Sessio
   on = sym (ap (λ (x : Session). x .over) (h .reached)) ∙ e
 
   -- one line more
-  pub went-on : SoFar tape before first after (p .session) (p .written)
+  pub went-on : SoFar tape before first after s' end
   went-on = record {
     count = suc (h .count);
     reached =
@@ -97,7 +102,7 @@ module _ {tape before : List ℕ} {first : Session} {out : List ℕ} {s : Sessio
   }
 
   -- and fewer bytes to come
-  pub shorter : length (toCome tape (p .session)) < length (toCome tape s)
+  pub shorter : length (toCome tape s') < length (toCome tape s)
   shorter = rw (t .session, line-by-line tape s e, length-append) (omega (arith, some-line stopping tape s))
 
 -- a run may end where the session is over, or there is less room than for the longest line

@@ -15,13 +15,15 @@ use tape::ReadAnswer;
 ghost use mathlib.Core.Path.{_≡_};
 ghost use Prim.Native.Nat.{_+_, _≤_};
 ghost use lib.ListN.{length, getD};
-ghost use Rattle.network.specs.Answers.{stepOf};
+ghost use Rattle.network.specs.declared.Ring.{Ring};
+ghost use Rattle.network.specs.Answers.{replyOf};
 ghost use Rattle.network.specs.Calls;
 ghost use Rattle.listing.specs.Line.{lineOf, endOf, tooLong};
 ghost use Rattle.runner.specs.Calls.{callOf, stepRing};
-ghost use Rattle.runner.specs.Session.{beginning, isRefusal, ended, passed, answered, next};
+ghost use Rattle.runner.specs.Session.{beginning, isRefusal};
 ghost use Rattle.runner.specs.Listing.{stopping};
-ghost use Rattle.runner.specs.Run.{Ran, Placed, Turned, endOfPut};
+ghost use Rattle.runner.specs.Run.{Ran, Placed, endOfPut};
+ghost use Rattle.runner.specs.Tally.{sessionOf, closedTally, countedTally, Told};
 
 // The longest tape that is run.
 pub const LONGEST_TAPE: usize = 60000;
@@ -47,6 +49,21 @@ pub struct Session {
 pub struct Progress {
     pub session: Session,
     pub written: usize,
+}
+
+// A session without its ring, which is large: this is all that a line needs and changes.
+struct Tally {
+    place: usize,
+    number: u32,
+    accepted: u32,
+    refused: u32,
+    over: bool,
+}
+
+// The tally after a line, and how much of the lent buffer was written.
+struct Turn {
+    tally: Tally,
+    written: usize,
 }
 
 impl Session {
@@ -100,33 +117,32 @@ fn call(ring: Ring, command: Command) -> Step
 {
     let action = command.action;
     match action {
-        Action::AddNode(slots) => ring::plan::add_node(ring, slots),
-        Action::AddChannel(sender, receiver) => ring::plan::add_channel(
+        Action::AddNode(slots) => plan::add_node(ring, slots),
+        Action::AddChannel(sender, receiver) => plan::add_channel(
             ring,
             NodeNo(sender),
             NodeNo(receiver),
         ),
-        Action::Start => ring::plan::start(ring),
-        Action::Receive(channel) => ring::steps::receive(ring, ChannelNo(channel)),
+        Action::Start => plan::start(ring),
+        Action::Receive(channel) => endpoints::receive(ring, ChannelNo(channel)),
         Action::Send(channel) => {
             let record = command.record;
-            ring::steps::send(ring, ChannelNo(channel), record)
+            endpoints::send(ring, ChannelNo(channel), record)
         }
-        Action::Enter(node) => ring::steps::enter(ring, NodeNo(node)),
-        Action::Move(node) => ring::steps::move_on(ring, NodeNo(node)),
+        Action::Enter(node) => traffic::enter(ring, NodeNo(node)),
+        Action::Move(node) => traffic::move_on(ring, NodeNo(node)),
     }
 }
 
-// The answer to a command that the reader refused; the ring stays.
-fn refuse(ring: Ring, refusal: Refusal) -> Step
-    ensures { λ r. ⌜ r ≡ stepOf ring (Calls.refused refusal) ⌝ }
+// The reply to a command that the reader refused.
+fn refuse(refusal: Refusal) -> Reply
+    ensures { λ r. ⌜ r ≡ replyOf {S = Ring} (Calls.refused refusal) ⌝ }
 {
     let none = BatchRecord::none();
-    let reply = Reply {
+    Reply {
         answer: Answer::Refused(refusal),
         delivered: none,
-    };
-    Step { ring, reply }
+    }
 }
 
 // The place after a line that was put. Where nothing was put, which does not happen with room for any line, it is the place before.
@@ -166,99 +182,130 @@ fn put_too_long(out: &mut [u8], at: usize) -> usize
     end_of(put, at)
 }
 
-// The session after the last line.
-fn finish(mut session: Session, written: usize) -> Progress
-    ensures { λ r. ⌜ (r .session ≡ ended session) × (r .written ≡ written) ⌝ }
+// Nothing written yet, and the tally of a session.
+fn first(session: Session) -> Turn
+    ensures { λ r. ⌜ (sessionOf (session .ring) (r .tally) ≡ session) × (r .written ≡ 0) ⌝ }
 {
-    session.over = true;
-    Progress { session, written }
+    let tally = Tally {
+        place: session.place,
+        number: session.number,
+        accepted: session.accepted,
+        refused: session.refused,
+        over: session.over,
+    };
+    Turn { tally, written: 0 }
 }
 
-// The session after a command with this answer, which goes on from the next place.
-fn pass(mut session: Session, step: Step, next: usize) -> Session
-    ensures { λ r. ⌜ r ≡ passed stopping session step next ⌝ }
+// The session of the ring and the tally that a run comes to, and how much was written.
+fn finish(ring: Ring, turn: Turn) -> Progress
+    ensures { λ r. ⌜ r ≡ record { session = sessionOf ring (turn .tally); written = turn .written } ⌝ }
 {
-    let reply = step.reply;
-    let answer = reply.answer;
-    let ring = step.ring;
-    session.ring = ring;
-    session.place = next;
-    session.number = one_more(session.number);
+    let tally = turn.tally;
+    let session = Session {
+        ring,
+        place: tally.place,
+        number: tally.number,
+        accepted: tally.accepted,
+        refused: tally.refused,
+        over: tally.over,
+    };
+    Progress {
+        session,
+        written: turn.written,
+    }
+}
+
+// The tally after the last line.
+fn closed(mut tally: Tally) -> Tally
+    ensures { λ r. ⌜ r ≡ closedTally tally ⌝ }
+{
+    tally.over = true;
+    tally
+}
+
+// The tally after a command with this answer, which goes on from the next place.
+fn counted(mut tally: Tally, answer: Answer, next: usize) -> Tally
+    ensures { λ r. ⌜ r ≡ countedTally tally answer next ⌝ }
+{
+    tally.place = next;
+    tally.number = one_more(tally.number);
     if is_refusal(answer) {
-        session.refused = one_more(session.refused);
+        tally.refused = one_more(tally.refused);
     } else {
-        session.accepted = one_more(session.accepted);
+        tally.accepted = one_more(tally.accepted);
     }
-    session
+    tally
 }
 
-// The line of a command that was answered, and the session after it.
-fn told(
-    tape: &[u8],
-    session: Session,
-    step: Step,
-    next: usize,
-    out: &mut [u8],
-    at: usize,
-) -> Progress
+// The line of a command with this reply, and the tally after it.
+fn told(tape: &[u8], tally: Tally, reply: Reply, next: usize, out: &mut [u8], at: usize) -> Turn
     requires { ⌜ at + 128 ≤ length (now out) ⌝ }
-    ensures { λ r. ⌜ Turned (answered stopping (now (tape .entry)) session step next) at (now (out .entry)) (now (out .exit)) r ⌝ }
+    ensures { λ r. ⌜ Told (lineOf (tally .number) (getD (now (tape .entry)) (tally .place) 0) reply)
+        (countedTally tally (reply .answer) next) at (now (out .entry)) (now (out .exit)) r ⌝ }
 {
-    let code = code_at(tape, session.place);
-    let reply = step.reply;
-    let written = put_line(out, at, session.number, code, reply);
-    let session = pass(session, step, next);
-    Progress { session, written }
+    let code = code_at(tape, tally.place);
+    let written = put_line(out, at, tally.number, code, reply);
+    let answer = reply.answer;
+    let tally = counted(tally, answer, next);
+    Turn { tally, written }
 }
 
-// One line at a place of the buffer, that of the next command or the last, and the session after it.
-fn step(tape: &[u8], session: Session, out: &mut [u8], at: usize) -> Progress
+// The last line of a tape that was run, and the tally after it.
+fn last(tally: Tally, out: &mut [u8], at: usize) -> Turn
     requires { ⌜ at + 128 ≤ length (now out) ⌝ }
-    ensures { λ r. ⌜ Turned (next stopping (now (tape .entry)) session) at (now (out .entry)) (now (out .exit)) r ⌝ }
+    ensures { λ r. ⌜ Told (endOf (tally .accepted) (tally .refused)) (closedTally tally) at (now (out .entry)) (now (out .exit)) r ⌝ }
 {
-    if LONGEST_TAPE < tape.len() {
-        let written = put_too_long(out, at);
-        return finish(session, written);
-    }
-    let place = session.place;
-    let reading = tape::read(tape, place);
-    let answer = reading.answer;
-    match answer {
-        ReadAnswer::Read { next } => {
-            let command = reading.command;
-            let ring = session.ring;
-            let stepped = call(ring, command);
-            told(tape, session, stepped, next, out, at)
-        }
-        ReadAnswer::End => {
-            let written = put_end(out, at, session.accepted, session.refused);
-            finish(session, written)
-        }
-        ReadAnswer::Refused(refusal) => {
-            let ring = session.ring;
-            let stepped = refuse(ring, refusal);
-            told(tape, session, stepped, tape.len(), out, at)
-        }
-    }
+    let written = put_end(out, at, tally.accepted, tally.refused);
+    let tally = closed(tally);
+    Turn { tally, written }
+}
+
+// The only line of a tape that is too long, and the tally after it.
+fn too_long(tally: Tally, out: &mut [u8], at: usize) -> Turn
+    requires { ⌜ at + 128 ≤ length (now out) ⌝ }
+    ensures { λ r. ⌜ Told tooLong (closedTally tally) at (now (out .entry)) (now (out .exit)) r ⌝ }
+{
+    let written = put_too_long(out, at);
+    let tally = closed(tally);
+    Turn { tally, written }
 }
 
 // Runs the tape on from a session: whole lines into the buffer, as long as there is room for any line and one to come. A caller runs
-// until the session is over, and prints what was written each time.
+// until the session is over, and prints what was written each time. The ring is large: in the loop it goes into the call alone.
 pub fn run(tape: &[u8], session: Session, out: &mut [u8]) -> Progress
     ensures { λ r. ⌜ Ran (now (tape .entry)) session (now (out .entry)) (now (out .exit)) r ⌝ }
 {
-    let mut current = session;
-    let mut written = 0;
-    while !current.over {
-        if out.len() - written < LINE_ROOM {
+    let mut ring = session.ring;
+    let mut turn = first(session);
+    while !turn.tally.over {
+        let tally = turn.tally;
+        let at = turn.written;
+        if out.len() - at < LINE_ROOM {
             break;
         }
-        let turn = step(tape, current, out, written);
-        written = turn.written;
-        current = turn.session;
+        if LONGEST_TAPE < tape.len() {
+            turn = too_long(tally, out, at);
+            continue;
+        }
+        let reading = tape::read(tape, tally.place);
+        let answer = reading.answer;
+        match answer {
+            ReadAnswer::Read { next } => {
+                let command = reading.command;
+                let stepped = call(ring, command);
+                let after = stepped.ring;
+                ring = after;
+                let reply = stepped.reply;
+                turn = told(tape, tally, reply, next, out, at);
+            }
+            ReadAnswer::End => {
+                turn = last(tally, out, at);
+            }
+            ReadAnswer::Refused(refusal) => {
+                let reply = refuse(refusal);
+                turn = told(tape, tally, reply, tape.len(), out, at);
+            }
+        }
     }
-    Progress {
-        session: current,
-        written,
-    }
+    finish(ring, turn)
 }

@@ -8,8 +8,8 @@
 // - to look, `hops_left`, which answers `Hops`, and `waiting_set`, which answers `Waiting`. They only read the ring.
 //
 // Any of them says `Refused` with the first refusal that applies, and then the ring is as it was; an unsound ring is refused by all
-// nine. The same call by value, of the crate `ring`, does the work, and each contract is that call's: what it returns is the whole
-// ring afterwards and the reply. The module `by_value` is for programs and tests.
+// nine. The same call by value, of `plan`, `endpoints`, `traffic` or `questions`, does the work, and each contract is that call's: what
+// it returns is the whole ring afterwards and the reply. The module `by_value` is for programs and tests.
 pub mod by_value;
 
 use batch::BatchRecord;
@@ -27,7 +27,7 @@ pub fn add_node(ring: &mut Ring, slots: u8) -> Reply
     ensures { λ r. ⌜ (now (ring .exit) ≡ ringAfter (Runs.addNode slots) (now (ring .entry)))
         × (r ≡ replyTo (Runs.addNode slots) (now (ring .entry))) ⌝ }
 {
-    let s = ring::plan::add_node(*ring, slots);
+    let s = plan::add_node(*ring, slots);
     *ring = s.ring;
     s.reply
 }
@@ -37,7 +37,7 @@ pub fn add_channel(ring: &mut Ring, sender: NodeNo, receiver: NodeNo) -> Reply
     ensures { λ r. ⌜ (now (ring .exit) ≡ ringAfter (Runs.addChannel (sender .0) (receiver .0)) (now (ring .entry)))
         × (r ≡ replyTo (Runs.addChannel (sender .0) (receiver .0)) (now (ring .entry))) ⌝ }
 {
-    let s = ring::plan::add_channel(*ring, sender, receiver);
+    let s = plan::add_channel(*ring, sender, receiver);
     *ring = s.ring;
     s.reply
 }
@@ -47,7 +47,7 @@ pub fn start(ring: &mut Ring) -> Reply
     ensures { λ r. ⌜ (now (ring .exit) ≡ ringAfter Runs.start (now (ring .entry)))
         × (r ≡ replyTo Runs.start (now (ring .entry))) ⌝ }
 {
-    let s = ring::plan::start(*ring);
+    let s = plan::start(*ring);
     *ring = s.ring;
     s.reply
 }
@@ -57,7 +57,7 @@ pub fn receive(ring: &mut Ring, channel: ChannelNo) -> Reply
     ensures { λ r. ⌜ (now (ring .exit) ≡ ringAfter (Runs.receive (channel .0)) (now (ring .entry)))
         × (r ≡ replyTo (Runs.receive (channel .0)) (now (ring .entry))) ⌝ }
 {
-    let s = ring::steps::receive(*ring, channel);
+    let s = endpoints::receive(*ring, channel);
     *ring = s.ring;
     s.reply
 }
@@ -67,7 +67,7 @@ pub fn send(ring: &mut Ring, channel: ChannelNo, record: BatchRecord) -> Reply
     ensures { λ r. ⌜ (now (ring .exit) ≡ ringAfter (Runs.send (channel .0) «record») (now (ring .entry)))
         × (r ≡ replyTo (Runs.send (channel .0) «record») (now (ring .entry))) ⌝ }
 {
-    let s = ring::steps::send(*ring, channel, record);
+    let s = endpoints::send(*ring, channel, record);
     *ring = s.ring;
     s.reply
 }
@@ -77,7 +77,7 @@ pub fn enter(ring: &mut Ring, node: NodeNo) -> Reply
     ensures { λ r. ⌜ (now (ring .exit) ≡ ringAfter (Runs.enter (node .0)) (now (ring .entry)))
         × (r ≡ replyTo (Runs.enter (node .0)) (now (ring .entry))) ⌝ }
 {
-    let s = ring::steps::enter(*ring, node);
+    let s = traffic::enter(*ring, node);
     *ring = s.ring;
     s.reply
 }
@@ -87,7 +87,7 @@ pub fn move_on(ring: &mut Ring, node: NodeNo) -> Reply
     ensures { λ r. ⌜ (now (ring .exit) ≡ ringAfter (Runs.move (node .0)) (now (ring .entry)))
         × (r ≡ replyTo (Runs.move (node .0)) (now (ring .entry))) ⌝ }
 {
-    let s = ring::steps::move_on(*ring, node);
+    let s = traffic::move_on(*ring, node);
     *ring = s.ring;
     s.reply
 }
@@ -96,12 +96,12 @@ pub fn move_on(ring: &mut Ring, node: NodeNo) -> Reply
 pub fn hops_left(ring: &Ring, channel: ChannelNo) -> Answer
     ensures { λ r. ⌜ r ≡ answerTo (Runs.hopsLeft (channel .0)) (now (ring .entry)) ⌝ }
 {
-    ring::questions::hops_left(*ring, channel)
+    questions::hops_left(*ring, channel)
 }
 
 // The channels on which a node's tasks wait, as a set of bits.
 pub fn waiting_set(ring: &Ring, node: NodeNo) -> Answer
     ensures { λ r. ⌜ r ≡ answerTo (Runs.waitingSet (node .0)) (now (ring .entry)) ⌝ }
 {
-    ring::questions::waiting_set(*ring, node)
+    questions::waiting_set(*ring, node)
 }

@@ -1,26 +1,26 @@
 -- Laws of what the test reads of a channel and of cells: where a message enters and is taken by its phase, a list that is filled from
--- another by a function, and cells that are added up to see whether all are zero. Assumes nothing.
-use Prim.Native.Nat.{ℕ, suc, pred, _+_, _-_, _≤_, _<_}
+-- another by a function, and the cells that a test reads. Assumes nothing.
+use Prim.Native.Nat.{ℕ, pred, _+_, _-_, _≤_, _<_}
 use mathlib.Core.Path.{_≡_, refl, sym, ap, _∙_}
-use mathlib.Core.Bool.{Bool, true, false, _&&_}
+use mathlib.Core.Bool.{Bool, true, _&&_}
 use mathlib.Core.List.{List, [], _∷_, map}
 use native.Mathlib.Numerals.{add-one}
 use native.Mathlib.Omega.{arith}
 use lib.Dec.{eqb, ltb}
-use lib.ListN.{length, getD, take, drop, set, length-set}
-use lib.Seq.{take-suc, take-suc-set, take-all, drop-cons, drop-length}
-use borrow.Author.Tests.{eqb-true, eq-eqb, ne-eqb, ltb-true, lt-ltb}
+use lib.ListN.{length, getD, take, set, length-set}
+use lib.Seq.{take-suc, take-suc-set, take-all}
+use borrow.Author.Tests.{ne-eqb, ltb-true, lt-ltb}
 use Rattle.batch.specs.declared.BatchRecord.{BatchRecord}
+use Rattle.batch.specs.Good.{every}
 use Rattle.network.specs.declared.Channel.{Channel}
 use Rattle.network.specs.Counting.{allOf}
 use Rattle.network.specs.Network.{answering}
 use Rattle.network.specs.Layout.{phaseOf}
-use Rattle.network.proofs.Cases.{by-same, by-less, by-test, and-left, and-right, and-both}
+use Rattle.network.proofs.Cases.{by-same, by-less, and-left}
 use Rattle.network.proofs.Rows.{map-append}
 use Rattle.soundness.specs.declared.Place.{Place}
 use Rattle.soundness.specs.Marks.{cellFits}
-use Rattle.soundness.specs.Test.{isZero, entryCell, targetCell, mayStand, fitsIn}
-use Rattle.soundness.proofs.Loops.{same-test}
+use Rattle.soundness.specs.Test.{entryCell, targetCell, mayStand, fitsIn}
 
 -- a channel's phase by its code
 
@@ -67,27 +67,10 @@ module _ (f : Channel → ℕ) (chs : List Channel) where
   filled-all out k whole l =
       sym (take-all k out (omega (arith, whole .long))) ∙ whole .front ∙ ap (map f) (take-all k chs l)
 
--- cells added up
-
-sum-zero : (t x : ℕ) → eqb (t + x) 0 ≡ (eqb t 0 && eqb x 0)
-sum-zero t x =
-    same-test
-    (λ e. let z = eqb-true (t + x) 0 e in and-both (eqb t 0) (eqb x 0) (eq-eqb t 0 (omega arith)) (eq-eqb x 0 (omega arith)))
-    (λ e. eq-eqb (t + x) 0 (omega (arith, eqb-true t 0 (and-left (eqb t 0) (eqb x 0) e), eqb-true x 0 (and-right (eqb t 0) (eqb x 0) e))))
-
-and-assoc : (a b c : Bool) → (a && (b && c)) ≡ ((a && b) && c)
-and-assoc true b c = refl
-and-assoc false b c = refl
-
-pub zero-more : (cells : List ℕ) (t i : ℕ) → i < length cells →
-    (eqb t 0 && allOf isZero (drop i cells)) ≡ (eqb (t + getD cells i 0) 0 && allOf isZero (drop (i + 1) cells))
+-- the test of the batch's cells is the one of a row's
+pub every-all : (f : ℕ → Bool) (xs : List ℕ) → every f xs ≡ allOf f xs
 unfolding allOf
-zero-more cells t i l =
-    rw (add-one, drop-cons cells i 0 l, sum-zero) (and-assoc (eqb t 0) (isZero (getD cells i 0)) (allOf isZero (drop (suc i) cells)))
-
-pub zero-end : (cells : List ℕ) (t i : ℕ) → i ≡ length cells → (eqb t 0 && allOf isZero (drop i cells)) ≡ eqb t 0
-unfolding allOf
-zero-end cells t i e = rw (e, drop-length) (by-test (eqb t 0) (λ h. rw h) (λ h. rw h))
+every-all f xs = refl
 
 -- a used cell by the number that it holds
 

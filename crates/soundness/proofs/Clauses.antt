@@ -14,6 +14,7 @@ use Rattle.network.specs.Layout.{phaseOf, viewChannel, channelInUse}
 use Rattle.network.proofs.Cases.{by-same, by-test}
 use Rattle.network.proofs.Tests.{reads, and-reads}
 use Rattle.soundness.specs.Test.{recordFits, phaseFits, usedChannel, markFits}
+use Rattle.soundness.proofs.Loops.{and-true}
 
 -- a phase has four codes, and a flag two
 code-cases {ℓ} : (P : ℕ → Type ℓ) → P 0 → P 1 → P 2 → P 3 → (code : ℕ) → code ≤ 3 → P code
@@ -27,10 +28,6 @@ flag-cases P off on flag l =
     by-same flag 0 (λ e. rw e off) λ d.
     let e : flag ≡ 1 = omega arith in
     rw e on
-
-and-true : (b : Bool) → b ≡ (b && true)
-and-true true = refl
-and-true false = refl
 
 -- the record of an offer, or of a phase
 

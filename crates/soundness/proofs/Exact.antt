@@ -16,7 +16,7 @@ use Rattle.network.specs.declared.Ring.{Ring}
 use Rattle.network.specs.declared.Node.{Node}
 use Rattle.network.specs.declared.Channel.{Channel}
 use Rattle.network.specs.Counting.{one, sum, allOf, weigh, count, occupied}
-use Rattle.network.specs.Network.{Network, nodeCount, channelCount, slotCount, node, entry, target, moving, timesOn}
+use Rattle.network.specs.Network.{Network, nodeCount, channelCount, node, entry, target, moving, timesOn}
 use Rattle.network.specs.Sound.{lastCount, isResting, isReady, absent, goodOffer, goodCarried, lineFits, bufferFits, soundNode, soundChannel, soundBefore, soundAfter}
 use Rattle.network.specs.Sound
 use Rattle.network.specs.Layout.{ringLimits, row, queueOf, view, viewChannel, blankNode, blankChannel, queueLaidOut, isBlankNode, isBlankChannel, nodeLaidOut, channelLaidOut, laidOut, soundRing}
@@ -25,12 +25,13 @@ use Rattle.network.proofs.Counting.{sum-same, sum-add}
 use Rattle.network.proofs.Tests.{reads, and-reads, all-below, below-all}
 use Rattle.network.proofs.Rows.{row-length, getD-blanks}
 use Rattle.soundness.specs.Marks.{marksAfter}
-use Rattle.soundness.specs.Test.{channelFits, channelsFit, usedNode, nodeFits, nodesFit, entryCell, targetCell, movingCell, routesOf, mayStand, fitsIn, rowFits, usedOf, usedCells, placeOf, rowsFit, marksFit, noMarks, bufferMarks, allMarks, rowsFitOf, messagesFit, startFits, testRing}
+use Rattle.soundness.specs.declared.Routes.{Routes}
+use Rattle.soundness.specs.Test.{slotsAt, channelFits, channelsFit, usedNode, nodeFits, nodesFit, entryCell, targetCell, movingCell, routesOf, mayStand, fitsIn, rowFits, usedOf, usedCells, placeOf, rowsFit, marksFit, noMarks, bufferMarks, allMarks, messagesFit, startFits, testRing}
 use Rattle.soundness.proofs.Loops.{same-test, sum-beyond}
 use Rattle.soundness.proofs.Cells.{fits-below, ends-below}
 use Rattle.soundness.proofs.Clauses.{Used, used-parts, parts-used, mark-part}
 use Rattle.soundness.proofs.Marks.{passes-parts, marks-length, marks-counts, rows-pass}
-use Rattle.soundness.proofs.View.{node-count-of, node-of, channel-count-of, channel-of}
+use Rattle.soundness.proofs.View.{slot-count-of, node-count-of, node-of, channel-count-of, channel-of}
 
 -- what the types say of any ring in memory
 pub record Whole (ring : Ring) : Type 0 where
@@ -89,8 +90,23 @@ module _ (ring : Ring) where
   abbrev queueAt : Bool → ℕ → List ℕ
   queueAt line p = queueOf (usedAt line p) (row (cellsIn line) p)
 
+  abbrev routes : Routes
+  routes = routesOf begun n c (ring .channels)
+
   abbrev fitsAt : Bool → ℕ → ℕ → Bool
-  fitsAt line p = fitsIn (placeOf n c line p) (routesOf (ring .channels) .entry) (routesOf (ring .channels) .target)
+  fitsAt line p = fitsIn (placeOf n c line p) (routes .entry) (routes .target)
+
+  abbrev rowsAt : Bool → List ℕ → Bool
+  rowsAt line seen = rowsFit n c line (ring .nodes) (cellsIn line) (routes .entry) (routes .target) seen
+
+  abbrev afterBuffers : List ℕ
+  afterBuffers = bufferMarks (ring .nodes) (ring .slots)
+
+  abbrev afterLines : List ℕ
+  afterLines = allMarks (ring .nodes) (ring .slots) (ring .lines)
+
+  abbrev starts : Bool
+  starts = startFits (ring .started) n c (ring .deliveries) (ring .nodes)
 
   abbrev timesIn : Bool → ℕ → ℕ
   timesIn line k = sum 16 (λ p. count k (queueAt line p))
@@ -110,7 +126,7 @@ module _ (ring : Ring) where
     blank-node : (p : ℕ) → n ≤ p → p < 16 → isBlankNode (nodeAt p) ≡ true
     rows : (line : Bool) (p : ℕ) → p < 16 → RowGood line p
     once : (k : ℕ) → k < c → timesIn false k + timesIn true k ≡ movingCell (channelAt k)
-    start : startFits ring ≡ true
+    start : starts ≡ true
 
   fits-in-use : (line : Bool) (p k : ℕ) → fitsAt line p k ≡ true → k < c
   fits-in-use line p k e = fits-below (placeOf n c line p) _ _ k e
@@ -121,23 +137,23 @@ module _ (ring : Ring) where
     abbrev marksFrom : ℕ → List ℕ
     marksFrom p = marksAfter (usedCells line (ring .nodes) (cellsIn line)) p seen
 
-    rows-parts : rowsFitOf ring line (cellsIn line) seen ≡ true → (p : ℕ) → p < 16 → RowGood line p
-    unfolding rowsFitOf rowsFit rowFits queueLaidOut
+    rows-parts : rowsAt line seen ≡ true → (p : ℕ) → p < 16 → RowGood line p
+    unfolding rowsFit rowFits queueLaidOut
     rows-parts e p l =
         let parts = simp and-reads at (all-below 16 _ e p l) in
         let each = passes-parts (fitsAt line p) (take (usedAt line p) (row (cellsIn line) p)) (marksFrom p) (parts .1) in
         record { laid = simp and-reads ((parts .0 .0, each .0), parts .0 .1); fits = each .1 }
 
-    rows-counts : rowsFitOf ring line (cellsIn line) seen ≡ true → (k : ℕ) →
+    rows-counts : rowsAt line seen ≡ true → (k : ℕ) →
         getD (marksFrom 16) k 0 ≡ getD seen k 0 + timesIn line k
-    unfolding rowsFitOf rowsFit rowFits usedCells
+    unfolding rowsFit rowFits usedCells
     rows-counts e k =
         marks-counts (fitsAt line) c (fits-in-use line) (usedCells line (ring .nodes) (cellsIn line)) seen most 16
         (λ p l. let parts = simp and-reads at (all-below 16 _ e p l) in parts .1) k
 
     parts-rows : ((p : ℕ) → p < 16 → RowGood line p) →
-        ((k : ℕ) → k < c → getD seen k 0 + timesIn line k ≤ 1) → rowsFitOf ring line (cellsIn line) seen ≡ true
-    unfolding rowsFitOf rowsFit rowFits queueLaidOut usedCells
+        ((k : ℕ) → k < c → getD seen k 0 + timesIn line k ≤ 1) → rowsAt line seen ≡ true
+    unfolding rowsFit rowFits queueLaidOut usedCells
     parts-rows rows once =
         below-all 16 _
         (λ p l.
@@ -150,7 +166,7 @@ module _ (ring : Ring) where
   no-mark : (k : ℕ) → getD noMarks k 0 ≡ 0
   no-mark k = getD-blanks 64 k 0
 
-  moving-cell : (k : ℕ) → getD (routesOf (ring .channels) .moving) k 0 ≡ movingCell (channelAt k)
+  moving-cell : (k : ℕ) → getD (routes .moving) k 0 ≡ movingCell (channelAt k)
   unfolding routesOf
   moving-cell k = List·getD-map movingCell (ring .channels) k blankChannel
 
@@ -158,18 +174,18 @@ module _ (ring : Ring) where
     none-long : c ≤ length noMarks
     none-long = channels-within
 
-    buffers-long : c ≤ length (bufferMarks ring)
+    buffers-long : c ≤ length afterBuffers
     unfolding bufferMarks
     buffers-long =
         rw (marks-length (fitsAt false) c (fits-in-use false) (usedCells false (ring .nodes) (ring .slots)) noMarks none-long 16)
         channels-within
 
     -- where both passes went to the end, the marks are the times on the ring
-    all-counts : rowsFitOf ring false (ring .slots) noMarks ≡ true → rowsFitOf ring true (ring .lines) (bufferMarks ring) ≡ true →
-        (k : ℕ) → getD (allMarks ring) k 0 ≡ timesIn false k + timesIn true k
+    all-counts : rowsAt false noMarks ≡ true → rowsAt true afterBuffers ≡ true →
+        (k : ℕ) → getD afterLines k 0 ≡ timesIn false k + timesIn true k
     unfolding allMarks bufferMarks
     all-counts buffers lines k =
-        omega (arith, rows-counts true (bufferMarks ring) buffers-long lines k, rows-counts false noMarks none-long buffers k, no-mark k)
+        omega (arith, rows-counts true afterBuffers buffers-long lines k, rows-counts false noMarks none-long buffers k, no-mark k)
 
   test-good : testRing ring ≡ true → Good
   unfolding testRing channelsFit channelFits nodesFit nodeFits messagesFit marksFit
@@ -181,7 +197,7 @@ module _ (ring : Ring) where
       let nodes = all-below 16 _ (parts .0 .0 .1) in
       let messages = parts .0 .1 in
       let buffers = rows-parts false noMarks (none-long within) (messages .0 .0) in
-      let lines = rows-parts true (bufferMarks ring) (buffers-long within) (messages .0 .1) in
+      let lines = rows-parts true afterBuffers (buffers-long within) (messages .0 .1) in
       record {
         started-flag = leb-true (ring .started) 1 (counts .0 .0);
         nodes-within = leb-true n 16 (counts .0 .1);
@@ -203,18 +219,18 @@ module _ (ring : Ring) where
     marked-once : (k : ℕ) → k < c → timesIn false k + timesIn true k ≤ 1
     marked-once k l = rw (g .once k l) (flag-below (moving (viewChannel (channelAt k) .phase)))
 
-    good-buffers : rowsFitOf ring false (ring .slots) noMarks ≡ true
+    good-buffers : rowsAt false noMarks ≡ true
     good-buffers =
         parts-rows false noMarks (none-long (g .channels-within)) (g .rows false)
         (λ k l. omega (arith, no-mark k, marked-once k l))
 
-    good-lines : rowsFitOf ring true (ring .lines) (bufferMarks ring) ≡ true
+    good-lines : rowsAt true afterBuffers ≡ true
     unfolding bufferMarks
     good-lines =
-        parts-rows true (bufferMarks ring) (buffers-long (g .channels-within)) (g .rows true)
+        parts-rows true afterBuffers (buffers-long (g .channels-within)) (g .rows true)
         (λ k l. omega (arith, no-mark k, marked-once k l, rows-counts false noMarks (none-long (g .channels-within)) good-buffers k))
 
-    good-marks : marksFit c (allMarks ring) (routesOf (ring .channels) .moving) ≡ true
+    good-marks : marksFit c afterLines (routes .moving) ≡ true
     unfolding marksFit
     good-marks =
         below-all c _
@@ -326,7 +342,7 @@ module _ (ring : Ring) where
 
     -- the clauses on the start, on either side
     record StartParts : Type 0 where
-      start : startFits ring ≡ true
+      start : starts ≡ true
       each-channel : (k : ℕ) → k < c →
           cond begun true (isResting (viewChannel (channelAt k) .phase) && absent (viewChannel (channelAt k) .offer)) ≡ true
       each-node : (p : ℕ) → p < n → cond begun true (not (eqb (nodeAt p .mark) 1)) ≡ true
@@ -340,9 +356,9 @@ module _ (ring : Ring) where
     start-is = refl
 
     module _ (channels-within : c ≤ 64) where
-      after-is : soundAfter σ ≡ (leb 1 n && leb 1 c && ltb c (slotCount σ))
+      after-is : soundAfter σ ≡ (leb 1 n && leb 1 c && ltb c (sum n (slotsAt (ring .nodes))))
       unfolding soundAfter
-      after-is = rw (node-count-of ring, channels-counted channels-within)
+      after-is = rw (slot-count-of ring, node-count-of ring, channels-counted channels-within)
 
       start-parts : cond begun (soundAfter σ) (soundBefore σ) ≡ true → StartParts
       unfolding startFits soundBefore

@@ -1,8 +1,8 @@
 -- What the test of a call that was refused or granted says, and the laws of a loop that answers `allBelow n f`: it stops with `false`
--- at a number that fails, and what passed below i and at i passes below i + 1. Assumes nothing.
+-- at a number that fails, or goes on and keeps `false`; what passed below i and at i passes below i + 1. Assumes nothing.
 use Prim.Native.Nat.{ℕ, zero, suc, _+_, _≤_, _<_}
 use mathlib.Core.Path.{_≡_, refl, sym, _∙_}
-use mathlib.Core.Bool.{Bool, true, false, not, false≢true}
+use mathlib.Core.Bool.{Bool, true, false, not, _&&_, false≢true}
 use native.Mathlib.Numerals.{add-one}
 use native.Mathlib.Nat.{le-antisymm, not-suc-le-zero}
 use native.Mathlib.Omega.{arith}
@@ -25,6 +25,10 @@ pub same-test : {a b : Bool} → (a ≡ true → b ≡ true) → (b ≡ true →
 same-test {a} {b} there back =
     by-test a (λ e. e ∙ sym (there e)) (λ e. by-test b (λ h. both-ways (back h) e) (λ h. e ∙ sym h))
 
+pub and-true : (b : Bool) → b ≡ (b && true)
+and-true true = refl
+and-true false = refl
+
 module _ (f : ℕ → Bool) where
   pub none-passed : allBelow 0 f ≡ true
   unfolding allBelow
@@ -37,6 +41,14 @@ module _ (f : ℕ → Bool) where
   pub one-fails : (n i : ℕ) → i < n → f i ≡ false → allBelow n f ≡ false
   one-fails n i inside fails =
       by-test (allBelow n f) (λ all. both-ways (all-below n f all i inside) fails) (λ e. e)
+
+  -- a loop that goes on and keeps what it found
+  pub kept-right : {found : Bool} (i : ℕ) → found ≡ allBelow i f → f i ≡ true → found ≡ allBelow (i + 1) f
+  unfolding allBelow
+  kept-right i all here = rw (add-one, here) (all ∙ and-true (allBelow i f))
+
+  pub kept-wrong : (i : ℕ) → f i ≡ false → false ≡ allBelow (i + 1) f
+  kept-wrong i here = sym (one-fails (i + 1) i (omega arith) here)
 
   -- the loop came to its end
   pub all-passed : (n i : ℕ) → i ≤ n → n ≤ i → allBelow i f ≡ true → allBelow n f ≡ true

@@ -6,15 +6,15 @@ use mathlib.Core.List.{List, map}
 use lib.Dec.{leb, ltb, eqb}
 use lib.ListN.{getD, take, drop, replicate}
 use Rattle.batch.specs.declared.BatchRecord.{BatchRecord}
-use Rattle.batch.specs.Good.{goodRecord}
+use Rattle.batch.specs.Good.{isZero, goodRecord}
 use Rattle.batch.specs.Blank.{blankRecord}
 use Rattle.hops.specs.Hops.{sheetHops}
 use Rattle.network.specs.declared.Ring.{Ring}
 use Rattle.network.specs.declared.Node.{Node}
 use Rattle.network.specs.declared.Channel.{Channel}
-use Rattle.network.specs.Counting.{one, allBelow, allOf}
-use Rattle.network.specs.Network.{slotCount, moving, entryOf, targetOf}
-use Rattle.network.specs.Layout.{rowLength, row, view, viewChannel, blankNode, blankChannel, isBlankNode, isBlankChannel}
+use Rattle.network.specs.Counting.{one, sum, allBelow, allOf}
+use Rattle.network.specs.Network.{moving, entryOf, targetOf}
+use Rattle.network.specs.Layout.{rowLength, row, viewChannel, blankNode, blankChannel, isBlankNode, isBlankChannel}
 use Rattle.soundness.specs.declared.Routes.{Routes}
 use Rattle.soundness.specs.declared.Place.{Place}
 use Rattle.soundness.specs.Marks.{passes, marksAfter}
@@ -22,9 +22,6 @@ use Rattle.soundness.specs.Marks.{passes, marksAfter}
 -- the slots of a node in the array
 abbrev pub slotsAt : List Node → ℕ → ℕ
 slotsAt nodes p = getD nodes p blankNode .slots
-
-abbrev pub isZero : ℕ → Bool
-isZero x = eqb x 0
 
 -- the channels
 
@@ -83,9 +80,15 @@ targetCell ch = targetOf (viewChannel ch) (viewChannel ch .phase)
 abbrev pub movingCell : Channel → ℕ
 movingCell ch = one (moving (viewChannel ch .phase))
 
--- the same for every channel, as three tables
-unfoldable pub routesOf : List Channel → Routes
-routesOf chs = record { entry = map entryCell chs; target = map targetCell chs; moving = map movingCell chs }
+-- what one pass over the channels finds: whether they fit, and the same for every channel, as three tables
+unfoldable pub routesOf : Bool → ℕ → ℕ → List Channel → Routes
+routesOf started n c chs =
+    record {
+      fit = channelsFit started n c chs;
+      entry = map entryCell chs;
+      target = map targetCell chs;
+      moving = map movingCell chs;
+    }
 
 -- in a line at the node of entry, in a buffer no further from the target than the entry is, by the hop table
 unfoldable pub mayStand : Place → ℕ → ℕ → Bool
@@ -128,33 +131,25 @@ marksFit c seen moving = allBelow c (λ k. eqb (getD seen k 0) (getD moving k 0)
 abbrev pub noMarks : List ℕ
 noMarks = replicate 64 0
 
-unfoldable pub bufferMarks : Ring → List ℕ
-bufferMarks ring = marksAfter (usedCells false (ring .nodes) (ring .slots)) 16 noMarks
+unfoldable pub bufferMarks : List Node → List ℕ → List ℕ
+bufferMarks ds slots = marksAfter (usedCells false ds slots) 16 noMarks
 
-unfoldable pub allMarks : Ring → List ℕ
-allMarks ring = marksAfter (usedCells true (ring .nodes) (ring .lines)) 16 (bufferMarks ring)
-
--- the same, of a ring
-unfoldable pub rowsFitOf : Ring → Bool → List ℕ → List ℕ → Bool
-rowsFitOf ring line cells seen =
-    rowsFit (ring .«node_count») (ring .«channel_count») line (ring .nodes) cells (routesOf (ring .channels) .entry)
-    (routesOf (ring .channels) .target) seen
+unfoldable pub allMarks : List Node → List ℕ → List ℕ → List ℕ
+allMarks ds slots lines = marksAfter (usedCells true ds lines) 16 (bufferMarks ds slots)
 
 -- every message stands where it may, once
-unfoldable pub messagesFit : Ring → Bool
-messagesFit ring =
-    rowsFitOf ring false (ring .slots) noMarks
-    && rowsFitOf ring true (ring .lines) (bufferMarks ring)
-    && marksFit (ring .«channel_count») (allMarks ring) (routesOf (ring .channels) .moving)
+unfoldable pub messagesFit : ℕ → ℕ → List Node → List ℕ → List ℕ → Routes → Bool
+messagesFit n c ds slots lines routes =
+    rowsFit n c false ds slots (routes .entry) (routes .target) noMarks
+    && rowsFit n c true ds lines (routes .entry) (routes .target) (bufferMarks ds slots)
+    && marksFit c (allMarks ds slots lines) (routes .moving)
 
 -- the start
 
 -- started: n and c at least 1, b greater than c; not started: no deliveries, and the rest is said of each channel and node
-unfoldable pub startFits : Ring → Bool
-startFits ring =
-    cond (eqb (ring .started) 1)
-    (leb 1 (ring .«node_count») && leb 1 (ring .«channel_count») && ltb (ring .«channel_count») (slotCount (view ring)))
-    (eqb (ring .deliveries) 0)
+unfoldable pub startFits : ℕ → ℕ → ℕ → ℕ → List Node → Bool
+startFits started n c deliveries ds =
+    cond (eqb started 1) (leb 1 n && leb 1 c && ltb c (sum n (slotsAt ds))) (eqb deliveries 0)
 
 -- the whole test
 unfoldable pub testRing : Ring → Bool
@@ -164,5 +159,6 @@ testRing ring =
     && leb (ring .«channel_count») 64
     && channelsFit (eqb (ring .started) 1) (ring .«node_count») (ring .«channel_count») (ring .channels)
     && nodesFit (eqb (ring .started) 1) (ring .«node_count») (ring .nodes)
-    && messagesFit ring
-    && startFits ring
+    && messagesFit (ring .«node_count») (ring .«channel_count») (ring .nodes) (ring .slots) (ring .lines)
+    (routesOf (eqb (ring .started) 1) (ring .«node_count») (ring .«channel_count») (ring .channels))
+    && startFits (ring .started) (ring .«node_count») (ring .«channel_count») (ring .deliveries) (ring .nodes)

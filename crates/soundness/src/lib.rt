@@ -1,6 +1,8 @@
 // The test for a sound ring (document 01, "A sound ring"), which every call makes first. It is linear in the size of the ring: one
 // pass over the channels, one over the nodes, and one over the cells of buffers and lines, which marks every channel that it meets and
 // stops at one that is marked already. At the end a channel has to be marked exactly when its message is on the ring.
+//
+// Every call pays for this test, so it copies little: each part of the ring goes to one function, and records are lent from where they lie.
 use batch::BatchRecord;
 use network::Channel;
 use network::Node;
@@ -9,16 +11,18 @@ ghost use mathlib.Core.Path.{_≡_};
 ghost use Prim.Native.Nat.{_≤_};
 ghost use lib.ListN.{length, take};
 ghost use Rattle.hops.specs.Hops.{sheetHops};
-ghost use Rattle.network.specs.Counting.{sum, allOf};
+ghost use Rattle.network.specs.Counting.{sum};
 ghost use Rattle.network.specs.Network.{slotCount};
 ghost use Rattle.network.specs.Layout.{view, isBlankNode, isBlankChannel, soundRing};
 ghost use Rattle.soundness.specs.Marks.{cellFits, passes, marked, marksAfter, Passed};
-ghost use Rattle.soundness.specs.Test.{recordFits, phaseFits, usedChannel, channelFits, channelsFit, usedNode, nodeFits, nodesFit};
-ghost use Rattle.soundness.specs.Test.{slotsAt, isZero, entryCell, targetCell, movingCell, routesOf, mayStand, fitsIn, rowFits, usedOf, usedCells};
+ghost use Rattle.soundness.specs.Test.{recordFits, phaseFits, usedChannel, channelFits, usedNode, nodeFits, nodesFit};
+ghost use Rattle.soundness.specs.Test.{slotsAt, entryCell, targetCell, movingCell, routesOf, mayStand, fitsIn, rowFits, usedOf, usedCells};
 ghost use Rattle.soundness.specs.Test.{rowsFit, marksFit, messagesFit, startFits};
 
-// Where every channel's message enters the ring, where it is taken, and 1 where it is on the ring now: a table for each, by channel.
+// What one pass over the channels finds: whether they fit; and where every channel's message enters the ring, where it is taken, and 1
+// where it is on the ring now, a table for each, by channel.
 struct Routes {
+    fit: bool,
     entry: [u8; 64],
     target: [u8; 64],
     moving: [u8; 64],
@@ -72,8 +76,6 @@ fn used_channel(started: bool, node_count: u8, channel: Channel) -> bool
     let receiver = channel.receiver.0;
     let phase = channel.phase;
     let offered = channel.offered;
-    let offer = channel.offer;
-    let carried = channel.carried;
     if node_count <= sender {
         return false;
     }
@@ -83,9 +85,11 @@ fn used_channel(started: bool, node_count: u8, channel: Channel) -> bool
     if !phase_fits(started, phase, offered) {
         return false;
     }
+    let offer = channel.offer;
     if !record_fits(offered == 1, offer) {
         return false;
     }
+    let carried = channel.carried;
     record_fits(phase == Channel::ANSWERING, carried)
 }
 
@@ -97,8 +101,6 @@ fn is_blank_channel(channel: Channel) -> bool
     let receiver = channel.receiver.0;
     let phase = channel.phase;
     let offered = channel.offered;
-    let offer = channel.offer;
-    let carried = channel.carried;
     if sender != 0 {
         return false;
     }
@@ -111,9 +113,11 @@ fn is_blank_channel(channel: Channel) -> bool
     if offered != 0 {
         return false;
     }
+    let offer = channel.offer;
     if !batch::is_blank(offer) {
         return false;
     }
+    let carried = channel.carried;
     batch::is_blank(carried)
 }
 
@@ -125,22 +129,6 @@ fn channel_fits(started: bool, node_count: u8, in_use: bool, channel: Channel) -
         return used_channel(started, node_count, channel);
     }
     is_blank_channel(channel)
-}
-
-// Every channel in use fits, but for where its message stands, and every other is blank.
-fn channels_fit(started: bool, node_count: u8, channel_count: u8, channels: [Channel; 64]) -> bool
-    ensures { λ r. ⌜ r ≡ channelsFit started «node_count» «channel_count» channels ⌝ }
-{
-    let count = channel_count as usize;
-    let mut k = 0;
-    while k < 64 {
-        let channel = channels[k];
-        if !channel_fits(started, node_count, k < count, channel) {
-            return false;
-        }
-        k += 1;
-    }
-    true
 }
 
 // A node in use, but for the cells of its rows. A turn mark stands only on a started ring and with a line that isn't empty.
@@ -254,22 +242,29 @@ fn moving_of(channel: Channel) -> u8
     1
 }
 
-// The three tables, for all channels.
-fn routes_of(channels: [Channel; 64]) -> Routes
-    ensures { λ r. ⌜ r ≡ routesOf channels ⌝ }
+// One pass over all channels: whether every one in use fits, but for where its message stands, and every other is blank; and the three
+// tables.
+fn routes_of(started: bool, node_count: u8, channel_count: u8, channels: [Channel; 64]) -> Routes
+    ensures { λ r. ⌜ r ≡ routesOf started «node_count» «channel_count» channels ⌝ }
 {
+    let count = channel_count as usize;
+    let mut fit = true;
     let mut entry = [0u8; 64];
     let mut target = [0u8; 64];
     let mut moving = [0u8; 64];
     let mut k = 0;
     while k < 64 {
         let channel = channels[k];
+        if !channel_fits(started, node_count, k < count, channel) {
+            fit = false;
+        }
         entry[k] = entry_of(channel);
         target[k] = target_of(channel);
         moving[k] = moving_of(channel);
         k += 1;
     }
     Routes {
+        fit,
         entry,
         target,
         moving,
@@ -308,20 +303,6 @@ fn may_stand(place: Place, entry: u8, target: u8) -> bool
     let left = distance(node_count, node, target);
     let whole = distance(node_count, entry, target);
     left <= whole
-}
-
-// Whether all the cells are zero. The cells are added up without a way out of the loop, which the compiler turns into wide sums.
-fn all_zero(cells: &[u8]) -> bool
-    requires { ⌜ length (now cells) ≤ 64 ⌝ }
-    ensures { λ r. ⌜ r ≡ allOf isZero (now (cells .entry)) ⌝ }
-{
-    let mut total: u32 = 0;
-    let mut i = 0;
-    while i < cells.len() {
-        total += cells[i] as u32;
-        i += 1;
-    }
-    total == 0
 }
 
 // A used cell: a channel in use that may stand here and that is not marked yet.
@@ -391,7 +372,7 @@ fn row_fits(
     if 64 < used {
         return false;
     }
-    if !all_zero(&row[used..]) {
+    if !batch::all_zero(&row[used..]) {
         return false;
     }
     mark_cells(place, &row[..used], entry, target, seen)
@@ -467,49 +448,6 @@ fn marks_fit(channel_count: u8, seen: &[u8], moving: &[u8]) -> bool
     true
 }
 
-// Every message stands where it may, once, and every cell that is not used is zero.
-fn messages_fit(ring: Ring) -> bool
-    requires { ⌜ ring .«channel_count» ≤ 64 ⌝ }
-    ensures { λ r. ⌜ r ≡ messagesFit ring ⌝ }
-{
-    let node_count = ring.node_count;
-    let channel_count = ring.channel_count;
-    let nodes = ring.nodes;
-    let slots = ring.slots;
-    let lines = ring.lines;
-    let channels = ring.channels;
-    let routes = routes_of(channels);
-    let entry = routes.entry;
-    let target = routes.target;
-    let moving = routes.moving;
-    let mut seen = [0u8; 64];
-    if !rows_fit(
-        node_count,
-        channel_count,
-        false,
-        nodes,
-        &slots,
-        &entry,
-        &target,
-        &mut seen,
-    ) {
-        return false;
-    }
-    if !rows_fit(
-        node_count,
-        channel_count,
-        true,
-        nodes,
-        &lines,
-        &entry,
-        &target,
-        &mut seen,
-    ) {
-        return false;
-    }
-    marks_fit(channel_count, &seen, &moving)
-}
-
 // The slots of the first `count` nodes.
 fn slots_below(nodes: [Node; 16], count: usize) -> usize
     requires { ⌜ count ≤ 16 ⌝ }
@@ -525,6 +463,51 @@ fn slots_below(nodes: [Node; 16], count: usize) -> usize
     total
 }
 
+// Every message stands where it may, once, and every cell that is not used is zero.
+fn messages_fit(
+    node_count: u8,
+    channel_count: u8,
+    nodes: [Node; 16],
+    slots: &[u8],
+    lines: &[u8],
+    routes: Routes,
+) -> bool
+    requires { ⌜ «channel_count» ≤ 64 ⌝ }
+    requires { ⌜ length (now slots) ≡ 1024 ⌝ }
+    requires { ⌜ length (now lines) ≡ 1024 ⌝ }
+    ensures { λ r. ⌜ r ≡ messagesFit «node_count» «channel_count» nodes (now (slots .entry)) (now (lines .entry)) routes ⌝ }
+{
+    let entry = routes.entry;
+    let target = routes.target;
+    let moving = routes.moving;
+    let mut seen = [0u8; 64];
+    if !rows_fit(
+        node_count,
+        channel_count,
+        false,
+        nodes,
+        slots,
+        &entry,
+        &target,
+        &mut seen,
+    ) {
+        return false;
+    }
+    if !rows_fit(
+        node_count,
+        channel_count,
+        true,
+        nodes,
+        lines,
+        &entry,
+        &target,
+        &mut seen,
+    ) {
+        return false;
+    }
+    marks_fit(channel_count, &seen, &moving)
+}
+
 // b of document 01: the slots of all nodes, of which there are no more than can be read.
 pub fn slot_count(ring: Ring) -> usize
     ensures { λ r. ⌜ r ≡ slotCount (view ring) ⌝ }
@@ -538,14 +521,18 @@ pub fn slot_count(ring: Ring) -> usize
 }
 
 // Started: n and c at least 1 and b greater than c. Not started: no deliveries; the rest is said of each channel and node.
-fn start_fits(ring: Ring) -> bool
-    requires { ⌜ ring .«node_count» ≤ 16 ⌝ }
-    ensures { λ r. ⌜ r ≡ startFits ring ⌝ }
+fn start_fits(
+    started: u8,
+    node_count: u8,
+    channel_count: u8,
+    deliveries: u32,
+    nodes: [Node; 16],
+) -> bool
+    requires { ⌜ «node_count» ≤ 16 ⌝ }
+    ensures { λ r. ⌜ r ≡ startFits started «node_count» «channel_count» deliveries nodes ⌝ }
 {
-    let node_count = ring.node_count;
-    let channel_count = ring.channel_count;
-    if ring.started != 1 {
-        return ring.deliveries == 0;
+    if started != 1 {
+        return deliveries == 0;
     }
     if node_count == 0 {
         return false;
@@ -553,7 +540,8 @@ fn start_fits(ring: Ring) -> bool
     if channel_count == 0 {
         return false;
     }
-    (channel_count as usize) < slot_count(ring)
+    let count = node_count as usize;
+    (channel_count as usize) < slots_below(nodes, count)
 }
 
 // Whether the ring is sound.
@@ -573,15 +561,24 @@ pub fn is_sound(ring: Ring) -> bool
         return false;
     }
     let channels = ring.channels;
-    if !channels_fit(started, node_count, channel_count, channels) {
+    let routes = routes_of(started, node_count, channel_count, channels);
+    if !routes.fit {
         return false;
     }
     let nodes = ring.nodes;
     if !nodes_fit(started, node_count, nodes) {
         return false;
     }
-    if !messages_fit(ring) {
+    let slots = ring.slots;
+    let lines = ring.lines;
+    if !messages_fit(node_count, channel_count, nodes, &slots, &lines, routes) {
         return false;
     }
-    start_fits(ring)
+    start_fits(
+        ring.started,
+        node_count,
+        channel_count,
+        ring.deliveries,
+        nodes,
+    )
 }

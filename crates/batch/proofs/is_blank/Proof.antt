@@ -1,5 +1,4 @@
--- `batch::is_blank` meets its contract: each test settles one field, and the name's cells are all zeros exactly when they are
--- good for a name of no characters. Assumes nothing.
+-- `batch::is_blank` meets its contract: each test settles one field, the last the name's cells. Assumes nothing.
 use mathlib.Core.Path.{_≡_, refl, sym, ap, ap₂, _∙_}
 use mathlib.Core.Bool.{true, false, _&&_}
 use lib.ListN.{length, length-map}
@@ -9,7 +8,7 @@ use mir.Facts.{toZ-ofZ}
 use borrow.Author.Tests.{eq-eqb, ne-eqb}
 use borrow.Author.Needs.{needs}
 use Rattle.batch.specs.declared.BatchRecord.{BatchRecord}
-use Rattle.batch.specs.Good.{isZero, nameCellsGood}
+use Rattle.batch.specs.Good.{isZero}
 use Rattle.batch.specs.Blank.{isZeroℤ}
 use Rattle.batch.proofs.Good.{by-test}
 use Rattle.batch.proofs.Blank.{zero-exactly, blank-by-tests}
@@ -56,20 +55,25 @@ returns-4 c =
     sym (blank-by-tests _ (number-zero (c .before .before .before)) (vessel-zero (c .before .before)) (degrees-zero (c .before))
     (ne-eqb _ 0 (c .if4 .taken)) refl)
 
-name-cells-good-requires : tie.Need-name-cells-good-requires
-name-cells-good-requires c κs = search needs
-
 -- the name has its 32 cells, as its type says
-all-cells : (c : tie.After-name-cells-good) → length (given (c .before .before .before .before .before) .name) ≡ 32
+all-cells : (c : tie.Else4) → length (given (c .before .before .before .before) .name) ≡ 32
 all-cells c =
-    simp length-map at (c .before .before .before .before .before .before .struct-told .given .1 .1 .1 .1 .0 .1 .0 .1)
+    simp length-map at (c .before .before .before .before .before .struct-told .given .1 .1 .1 .1 .0 .1 .0 .1)
 
 returns-5 : tie.Need-returns-5
-unfolding nameCellsGood
 returns-5 c =
-    sym (blank-by-tests _ (number-zero (c .before .before .before .before)) (vessel-zero (c .before .before .before))
-    (degrees-zero (c .before .before)) (size-zero (c .before)) (ap₂ _&&_ (eq-eqb _ 32 (all-cells c)) (sym (c .name-cells-good .ensures))))
+    let d = c .before .before in
+    sym (blank-by-tests _ (number-zero (d .before .before .before)) (vessel-zero (d .before .before))
+    (degrees-zero (d .before)) (size-zero d) (ap₂ _&&_ (eq-eqb _ 32 (all-cells d)) (sym (c .all-zero .ensures))))
 
 pub is-blank-spec : {M : Type 1} → statement M
 is-blank-spec =
-    tie.close (tie.spec returns returns-2 returns-3 returns-4 name-cells-good-requires returns-5)
+    tie.close
+    (tie.spec
+    returns
+    returns-2
+    returns-3
+    returns-4
+    (λ c. sym (all-cells (c .before)))
+    (λ c κs. search needs)
+    returns-5)

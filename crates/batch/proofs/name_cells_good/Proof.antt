@@ -1,70 +1,75 @@
--- `batch::name_cells_good` meets its contract. The invariant: the whole name is good exactly when the cells from `i` on are;
--- each turn settles cell `i`, as a character or as fill. Assumes nothing.
-use mathlib.Core.Path.{_≡_, sym, _∙_}
-use mathlib.Core.Bool.{Bool, true, false, _&&_}
+-- `batch::name_cells_good` meets its contract. The invariant: the whole name is good exactly when no cell passed was wrong and the cells
+-- from `i` on are good; each turn settles cell `i`, whose place is read off the table. Assumes nothing.
+use mathlib.Core.Path.{_≡_, refl, sym, ap, _∙_}
+use mathlib.Core.Bool.{Bool, cond, _&&_}
 use mathlib.Core.Logic.{⊎-elim}
-use Prim.Native.Nat.{ℕ, _+_, _-_, _≤_, _<_}
+use mathlib.Core.List.{List}
+use Prim.Native.Nat.{ℕ, _+_, _-_, _≤_}
 use native.Mathlib.Omega.{arith}
+use lib.Dec.{ltb}
 use lib.ListN as ListN
 use lib.ListN.{getD}
 use mir.Syntax.{w8}
 use borrow.Kind.Array.{eInt, good-length}
-use borrow.Author.Tests.{eq-eqb, ne-eqb}
+use borrow.Author.Tests.{ne-eqb, not-true, not-false}
 use borrow.Author.Needs.{needs}
 use Rattle.batch.specs.Good.{nameCellsGood, isCharacter, isZero}
-use Rattle.batch.proofs.Name as name
-use Rattle.batch.proofs.Name.{goodFrom}
+use Rattle.batch.proofs.Name.{goodFrom, goodFrom-start, goodFrom-more, goodFrom-end}
+use Rattle.batch.proofs.Name.{CountsUp, counted, turn-wrong, turn-right, turn-end}
 use Rattle.batch.proofs.name_cells_good.Statement.{statement}
 use Rattle.batch.proofs.name_cells_good.Tie as tie
 
 abbrev Inv-loop : tie.InvT-loop
-Inv-loop length name characters i₀ i = (i ≤ 32) × (nameCellsGood length name ≡ goodFrom length name i)
+Inv-loop length name places wrong₀ i₀ wrong i =
+    (i ≤ 32)
+    × (wrong ≤ i)
+    × CountsUp places
+    × (nameCellsGood length name ≡ (isZero wrong && goodFrom length name i))
 
 abbrev μ-loop : tie.MeasureT-loop
-μ-loop length name characters i₀ i = 32 - i
+μ-loop length name places wrong₀ i₀ wrong i = 32 - i
+
+loop-holds : tie.Need-loop-holds Inv-loop μ-loop
+loop-holds c = (omega arith, omega arith, counted _ refl, goodFrom-start _ _)
+
+array-read-cell : tie.Need-array-read-cell Inv-loop μ-loop
+array-read-cell c = omega arith
+
+array-read-cell-good : tie.Need-array-read-cell-good Inv-loop μ-loop
+array-read-cell-good c = omega arith
 
 all-cells : (c : tie.Start Inv-loop μ-loop) → ListN.length (c .args .t2) ≡ 32
 all-cells c = good-length (eInt w8) 32 (c .args .t2) _ (c .good .1 .0)
 
--- In a turn: the name is good exactly when cell i passes its test and the cells after it are good.
-module _ (c : tie.In-loop Inv-loop μ-loop) where
+-- the call judges cell i by its place
+module _ (c : tie.After-cell-good Inv-loop μ-loop) where
   abbrev n : ℕ
-  n = c .before .before .args .length
+  n = c .before .before .before .args .length
 
-  abbrev cell : ℕ
-  cell = getD (c .before .before .args .t2) (c .before .loop .i) 0
+  abbrev cells : List ℕ
+  cells = c .before .before .before .args .t2
+
+  abbrev i : ℕ
+  i = c .before .before .loop .i
+
+  judged : c .cell-good .result ≡ cond (ltb i n) (isCharacter (getD cells i 0)) (isZero (getD cells i 0))
+  judged =
+      c .cell-good .ensures
+      ∙ ap (λ place. cond (ltb place n) (isCharacter (getD cells i 0)) (isZero (getD cells i 0)))
+      (c .before .before .loop .inv .2 .at i (omega arith))
 
   abbrev later : Bool
-  later = goodFrom n (c .before .before .args .t2) (c .before .loop .i + 1)
+  later = goodFrom n cells (i + 1)
 
-  abbrev whole : Bool
-  whole = nameCellsGood n (c .before .before .args .t2)
+  turn : nameCellsGood n cells ≡ isZero (c .before .before .loop .wrong) && (c .cell-good .result && later)
+  turn =
+      c .before .before .loop .inv .3
+      ∙ ap (λ rest. isZero (c .before .before .loop .wrong) && rest)
+      (goodFrom-more n cells i (omega (arith, all-cells (c .before .before .before)))
+      ∙ ap (λ here. here && later) (sym judged))
 
-  inside : c .before .loop .i < ListN.length (c .before .before .args .t2)
-  inside = omega (arith, all-cells (c .before .before))
-
-  by-character : {t : Bool} → c .before .loop .i < n → isCharacter cell ≡ t → whole ≡ t && later
-  by-character h e = c .before .loop .inv .1 ∙ name.goodFrom-character _ _ _ inside h ∙ rw e
-
-  by-fill : {t : Bool} → n ≤ c .before .loop .i → isZero cell ≡ t → whole ≡ t && later
-  by-fill h e = c .before .loop .inv .1 ∙ name.goodFrom-fill _ _ _ inside h ∙ rw e
-
-loop-holds : tie.Need-loop-holds Inv-loop μ-loop
-loop-holds c = (search needs, name.goodFrom-start _ _)
-
-array-read-cell : tie.Need-array-read-cell Inv-loop μ-loop
-array-read-cell c = search needs
-
-returns : tie.Need-returns Inv-loop μ-loop
-returns c = sym (by-character (c .before .before) (c .before .if1 .taken) (name.too-low _ (c .if2 .taken)))
-
-returns-2 : tie.Need-returns-2 Inv-loop μ-loop
-returns-2 c =
-    sym (by-character (c .before .before .before) (c .before .before .if1 .taken)
-    (name.too-high _ (c .before .if2 .left) (c .if3 .taken)))
-
-returns-3 : tie.Need-returns-3 Inv-loop μ-loop
-returns-3 c = sym (by-fill (c .before .before) (c .before .if1 .left) (ne-eqb _ _ (c .if4 .taken)))
+add-wrong : tie.Need-add-wrong Inv-loop μ-loop
+add-wrong c = omega arith
 
 add-i : tie.Need-add-i Inv-loop μ-loop
 add-i c = omega arith
@@ -73,17 +78,31 @@ loop-less : tie.Need-loop-less Inv-loop μ-loop
 loop-less c = omega arith
 
 loop-again : tie.Need-loop-again Inv-loop μ-loop
-loop-again c = (
-  omega arith,
-  ⊎-elim (λ w. by-character (c .before) (w .0 .taken) (name.between _ (w .1 .left) (w .2 .left)))
-      (λ w. by-fill (c .before) (w .0 .left) (eq-eqb _ _ (w .1 .left))) (c .if1 .came),
-)
+loop-again c =
+    let wrong = c .before .before .before .loop .wrong in
+    let here = c .before .cell-good .result in
+    let placed = c .before .before .before .loop .inv .2 in
+    ⊎-elim
+    (λ w. (
+      omega arith,
+      omega (arith, w .1),
+      placed,
+      rw (w .1, ne-eqb (wrong + 1) 0 (λ e. omega arith))
+          (turn-wrong (isZero wrong) here (later (c .before)) (turn (c .before)) (not-true here (w .0 .taken))),
+    ))
+    (λ w. (
+      omega arith,
+      omega (arith, w .1),
+      placed,
+      rw (w .1) (turn-right (isZero wrong) here (later (c .before)) (turn (c .before)) (not-false here (w .0 .left))),
+    ))
+    (c .if1 .came)
 
-returns-4 : tie.Need-returns-4 Inv-loop μ-loop
-returns-4 c =
-    let cells = c .before .before .args .t2 in
-    let full : c .before .loop .i ≡ ListN.length cells = omega (arith, all-cells (c .before .before)) in
-    sym (c .before .loop .inv .1 ∙ rw full (name.goodFrom-end _ cells))
+returns : tie.Need-returns Inv-loop μ-loop
+returns c =
+    let l = c .before .loop in
+    let end : l .i ≡ ListN.length (c .before .before .args .t2) = omega (arith, all-cells (c .before .before)) in
+    sym (turn-end (isZero (l .wrong)) _ (l .inv .3) (rw end (goodFrom-end _ (c .before .before .args .t2))))
 
 pub name-cells-good-spec : {M : Type 1} → statement M
 name-cells-good-spec =
@@ -93,10 +112,10 @@ name-cells-good-spec =
     μ-loop
     loop-holds
     array-read-cell
-    returns
-    returns-2
-    returns-3
+    array-read-cell-good
+    (λ c κs. search needs)
+    add-wrong
     add-i
     loop-less
     loop-again
-    returns-4)
+    returns)

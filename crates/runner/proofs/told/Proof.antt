@@ -1,4 +1,4 @@
--- `runner::told` meets its contract: the line that was put, and the session that passed. Assumes nothing.
+-- `runner::told` meets its contract: the line that was put, and the counts after it. Assumes nothing.
 use borrow.Author.Needs.{needs}
 use Rattle.runner.proofs.told.Statement.{statement}
 use Rattle.runner.proofs.told.Tie as tie
@@ -7,8 +7,8 @@ returns : tie.Need-returns
 returns c =
     let put = c .before .before .before in
     record {
-      session = c .pass .ensures;
-      line = rw (put .before .before .before .code-at .ensures) at (put .put-line .ensures);
+      tally = c .counted .ensures;
+      line = rw (put .before .before .code-at .ensures) at (put .put-line .ensures);
     }
 
 pub told-spec : {M : Type 1} → statement M

@@ -1,11 +1,11 @@
--- `site::enter` meets its contract: it is a call in place (Walk.antt) over `ring::steps::enter`. Assumes nothing.
+-- `site::enter` meets its contract: it is a call in place (Walk.antt) over `traffic::enter`. Assumes nothing.
 use mathlib.Core.Path.{refl}
 use mathlib.Core.List.{[], _∷_}
 use base.Logic.{emp}
 use contract.Monad.{factI}
 use Rattle.network.specs.Runs
-use Rattle.ring.proofs.steps.enter.Symbol as by-value
-use Rattle.ring.proofs.steps.enter.Met.{met}
+use Rattle.traffic.proofs.enter.Symbol as by-value
+use Rattle.traffic.proofs.enter.Met.{met}
 use Rattle.site.specs.InPlace.{stepTo}
 use Rattle.site.proofs.Types.{node-no}
 use Rattle.site.proofs.Walk.{in-place}
@@ -19,4 +19,4 @@ unfolding code.routine
 enter-spec 𝓤 H 𝓜 𝓖 𝓡 =
     in-place (node-no ∷ []) (λ ring a. stepTo (Runs.enter (a .0 .0)) ring) 𝓤 H 𝓜 𝓖 𝓡
     (λ κs a. enter.clauses 𝓤 H (𝓖 .A) (𝓜 .mem) (𝓡 .run) κs a .ensures tt) (λ κs a ws. factI 𝓤 _ (emp 𝓤) (refl, refl))
-    code.env name by-value.name by-value.routine (code.unfolded 𝓤 H 𝓜 𝓡) code.calls-ring·steps·enter (met 𝓤 H 𝓜 𝓖 𝓡)
+    code.env name by-value.name by-value.routine (code.unfolded 𝓤 H 𝓜 𝓡) code.calls-traffic·enter (met 𝓤 H 𝓜 𝓖 𝓡)

@@ -23,7 +23,7 @@ is-blank-requires c κs = search needs
 
 returns-5 : tie.Need-returns-5
 returns-5 c =
-    let d = c .before .before in
+    let d = c .before .before .before in
     rw (
       d .before .before .before .if1 .left,
       d .before .before .if2 .left,
@@ -37,13 +37,14 @@ is-blank-requires-2 c κs = search needs
 
 returns-6 : tie.Need-returns-6
 returns-6 c =
-    let d = c .before .before .before in
+    let e = c .before .before in
+    let d = e .before .before .before in
     rw (
       d .before .before .before .if1 .left,
       d .before .before .if2 .left,
       d .before .if3 .left,
       d .if4 .left,
-      granted (c .before .before .is-blank .ensures) (c .before .if5 .left),
+      granted (e .before .is-blank .ensures) (e .if5 .left),
     )
     (c .is-blank2 .ensures)
 

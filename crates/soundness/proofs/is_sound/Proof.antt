@@ -1,6 +1,6 @@
 -- `soundness::is_sound` meets its contract: the tests are those of `testRing`, in its order, and `testRing` is the sound ring of the
 -- definitions. Assumes nothing.
-use mathlib.Core.Path.{_≡_, sym, _∙_}
+use mathlib.Core.Path.{_≡_, sym, ap, _∙_}
 use mathlib.Core.Bool.{Bool, true, _&&_}
 use lib.Dec.{leb, eqb}
 use lib.ListN.{length-map}
@@ -8,7 +8,8 @@ use borrow.Author.Needs.{needs}
 use borrow.Author.Tests.{le-leb, lt-leb}
 use Rattle.network.specs.declared.Ring.{Ring}
 use Rattle.network.specs.Layout.{soundRing}
-use Rattle.soundness.specs.Test.{channelsFit, nodesFit, testRing}
+use Rattle.soundness.specs.declared.Routes.{Routes}
+use Rattle.soundness.specs.Test.{channelsFit, nodesFit, routesOf, messagesFit, testRing}
 use Rattle.soundness.proofs.Loops.{refused, granted}
 use Rattle.soundness.proofs.Exact.{Whole, test-is-sound}
 use Rattle.soundness.proofs.is_sound.Statement.{statement}
@@ -39,17 +40,45 @@ ringOf c = given c .args .ring
 counts-fit : (c : tie.Else3) → (leb (ringOf c .started) 1 && leb (ringOf c .«node_count») 16 && leb (ringOf c .«channel_count») 64) ≡ true
 counts-fit c = rw (le-leb _ _ (c .before .before .if1 .left), le-leb _ _ (c .before .if2 .left), le-leb _ _ (c .if3 .left))
 
+-- what the pass over the channels found, and the clauses that the others answer
+abbrev routes : Ring → Routes
+routes ring = routesOf (eqb (ring .started) 1) (ring .«node_count») (ring .«channel_count») (ring .channels)
+
 abbrev channelsOf : Ring → Bool
 channelsOf ring = channelsFit (eqb (ring .started) 1) (ring .«node_count») (ring .«channel_count») (ring .channels)
-
-channels-fit : (c : tie.Else4) → channelsOf (ringOf (c .before .before .before)) ≡ true
-channels-fit c = granted (c .before .channels-fit .ensures) (c .if4 .left)
 
 abbrev nodesOf : Ring → Bool
 nodesOf ring = nodesFit (eqb (ring .started) 1) (ring .«node_count») (ring .nodes)
 
-nodes-fit : (c : tie.Else5) → nodesOf (ringOf (c .before .before .before .before .before .before)) ≡ true
+abbrev messagesOf : Ring → Bool
+messagesOf ring =
+    messagesFit (ring .«node_count») (ring .«channel_count») (ring .nodes) (ring .slots) (ring .lines) (routes ring)
+
+abbrev counted : tie.After-routes-of → tie.Else3
+counted c = c .before .before
+
+channels-found : (c : tie.After-routes-of) → c .routes-of .result .fit ≡ channelsOf (ringOf (counted c))
+unfolding routesOf
+channels-found c = ap (λ r. r .fit) (c .routes-of .ensures)
+
+abbrev routed : tie.Else4 → tie.After-routes-of
+routed c = c .before .before
+
+channels-fit : (c : tie.Else4) → channelsOf (ringOf (counted (routed c))) ≡ true
+channels-fit c = granted (channels-found (routed c)) (c .if4 .left)
+
+abbrev channelled : tie.Else5 → tie.Else4
+channelled c = c .before .before .before
+
+nodes-fit : (c : tie.Else5) → nodesOf (ringOf (counted (routed (channelled c)))) ≡ true
 nodes-fit c = granted (c .before .nodes-fit .ensures) (c .if5 .left)
+
+abbrev noded : tie.After-messages-fit → tie.Else5
+noded c = c .before .before .before .before .before
+
+messages-found : (c : tie.After-messages-fit) →
+    c .messages-fit .result ≡ messagesOf (ringOf (counted (routed (channelled (noded c)))))
+messages-found c = rw (← (routed (channelled (noded c)) .routes-of .ensures)) (c .messages-fit .ensures)
 
 returns : tie.Need-returns
 unfolding testRing
@@ -66,49 +95,45 @@ returns-3 c =
     by-test-ring (c .before .before .before .before .before)
     (rw (le-leb _ _ (c .before .before .if1 .left), le-leb _ _ (c .before .if2 .left), lt-leb _ _ (c .if3 .taken)))
 
-channels-fit-requires : tie.Need-channels-fit-requires
-channels-fit-requires c κs = search needs
-
 returns-4 : tie.Need-returns-4
 unfolding testRing
 returns-4 c =
-    let d = c .before .before .before in
-    by-test-ring (given d) (rw (counts-fit d, refused (c .before .channels-fit .ensures) (c .if4 .taken)))
-
-nodes-fit-requires : tie.Need-nodes-fit-requires
-nodes-fit-requires c κs = search needs
+    let r = c .before .before in
+    let d = counted r in
+    by-test-ring (given d) (rw (counts-fit d, refused (channels-found r) (c .if4 .taken)))
 
 returns-5 : tie.Need-returns-5
 unfolding testRing
 returns-5 c =
     let e = c .before .before .before in
-    let d = e .before .before .before in
+    let d = counted (routed e) in
     by-test-ring (given d) (rw (counts-fit d, channels-fit e, refused (c .before .nodes-fit .ensures) (c .if5 .taken)))
 
+-- the cells that are lent
+lent : (c : tie.After-lines2) → Whole (ringOf (counted (routed (channelled (c .before .before .before .before)))))
+lent c = whole (given (counted (routed (channelled (c .before .before .before .before)))))
+
 messages-fit-requires : tie.Need-messages-fit-requires
-messages-fit-requires c κs = search needs
+messages-fit-requires c κs = (search needs, (lent c .slots-whole, lent c .lines-whole))
 
 returns-6 : tie.Need-returns-6
 unfolding testRing
 returns-6 c =
-    let f = c .before .before in
-    let e = f .before .before .before in
-    let d = e .before .before .before in
+    let f = noded (c .before) in
+    let e = channelled f in
+    let d = counted (routed e) in
     by-test-ring (given d)
-    (rw (counts-fit d, channels-fit e, nodes-fit f, refused (c .before .messages-fit .ensures) (c .if6 .taken)))
-
-start-fits-requires : tie.Need-start-fits-requires
-start-fits-requires c κs = search needs
+    (rw (counts-fit d, channels-fit e, nodes-fit f, refused (messages-found (c .before)) (c .if6 .taken)))
 
 returns-7 : tie.Need-returns-7
 unfolding testRing
 returns-7 c =
-    let f = c .before .before .before in
-    let e = f .before .before .before in
-    let d = e .before .before .before in
+    let m = c .before .before in
+    let f = noded m in
+    let e = channelled f in
+    let d = counted (routed e) in
     by-test-ring (given d)
-    (rw (counts-fit d, channels-fit e, nodes-fit f, granted (c .before .before .messages-fit .ensures) (c .before .if6 .left))
-    (c .start-fits .ensures))
+    (rw (counts-fit d, channels-fit e, nodes-fit f, granted (messages-found m) (c .before .if6 .left)) (c .start-fits .ensures))
 
 pub is-sound-spec : {M : Type 1} → statement M
 is-sound-spec =
@@ -117,11 +142,13 @@ is-sound-spec =
     returns
     returns-2
     returns-3
-    channels-fit-requires
+    (λ c κs. search needs)
     returns-4
-    nodes-fit-requires
+    (λ c κs. search needs)
     returns-5
+    (λ c. search needs)
+    (λ c. sym (lent c .lines-whole))
     messages-fit-requires
     returns-6
-    start-fits-requires
+    (λ c κs. search needs)
     returns-7)

@@ -1,82 +1,94 @@
--- `soundness::routes_of` meets its contract. The invariant: the first k cells of each table are those of the first k channels.
--- Assumes nothing.
-use Prim.Native.Nat.{_-_, _≤_, _<_}
-use mathlib.Core.Path.{_≡_, sym}
+-- `soundness::routes_of` meets its contract. The invariant: what was found says whether the channels passed fit, and the first k cells
+-- of each table are those of the first k channels. Assumes nothing.
+use Prim.Native.Nat.{ℕ, _-_, _≤_, _<_}
+use mathlib.Core.Path.{_≡_, sym, ap, _∙_}
+use mathlib.Core.Bool.{Bool}
+use mathlib.Core.List.{List}
+use mathlib.Core.Logic.{⊎-elim}
 use native.Mathlib.Omega.{arith}
-use lib.ListN.{length}
+use lib.Dec.{ltb}
+use lib.ListN.{length, getD}
 use borrow.Author.Needs.{needs}
-use Rattle.soundness.specs.Test.{entryCell, targetCell, movingCell, routesOf}
+use Rattle.network.specs.declared.Channel.{Channel}
+use Rattle.network.specs.Counting.{allBelow}
+use Rattle.network.specs.Layout.{blankChannel}
+use Rattle.soundness.specs.Test.{channelFits, channelsFit, entryCell, targetCell, movingCell, routesOf}
+use Rattle.soundness.proofs.Loops.{refused, granted, none-passed, kept-right, kept-wrong, getD-within}
 use Rattle.soundness.proofs.Cells.{Filled, filled-none, filled-more, filled-all}
 use Rattle.soundness.proofs.routes_of.Statement.{statement}
 use Rattle.soundness.proofs.routes_of.Tie as tie
 
+abbrev test : Bool → ℕ → ℕ → List Channel → ℕ → Bool
+test started n c chs k = channelFits started n (ltb k c) (getD chs k blankChannel)
+
 abbrev Inv-loop : tie.InvT-loop
-Inv-loop channels entry₀ target₀ moving₀ k₀ entry target moving k =
-    (k ≤ 64) × Filled entryCell channels entry k × Filled targetCell channels target k × Filled movingCell channels moving k
+Inv-loop started node-count channel-count channels count fit₀ entry₀ target₀ moving₀ k₀ fit entry target moving k =
+    (k ≤ 64)
+    × (fit ≡ allBelow k (test started node-count channel-count channels))
+    × Filled entryCell channels entry k
+    × Filled targetCell channels target k
+    × Filled movingCell channels moving k
 
 abbrev μ-loop : tie.MeasureT-loop
-μ-loop channels entry₀ target₀ moving₀ k₀ entry target moving k = 64 - k
+μ-loop started node-count channel-count channels count fit₀ entry₀ target₀ moving₀ k₀ fit entry target moving k = 64 - k
 
-whole : (c : tie.Start Inv-loop μ-loop) → length (c .args .t1) ≡ 64
-whole c = c .good .0 .1 .0 .1
+whole : (c : tie.Start Inv-loop μ-loop) → length (c .args .t4) ≡ 64
+whole c = c .good .1 .1 .1 .0 .1 .0 .1
 
 loop-holds : tie.Need-loop-holds Inv-loop μ-loop
 loop-holds c =
     let long = sym (whole c) in
-    (search needs, filled-none _ _ _ long, filled-none _ _ _ long, filled-none _ _ _ long)
+    (search needs, sym (none-passed _), filled-none _ _ _ long, filled-none _ _ _ long, filled-none _ _ _ long)
 
-mul-channel : tie.Need-mul-channel Inv-loop μ-loop
-mul-channel c = search needs
+-- the call judges channel k
+module _ (c : tie.After-channel-fits Inv-loop μ-loop) where
+  abbrev start : tie.Start Inv-loop μ-loop
+  start = c .before .before .before .before
 
-array-copy-out-channel : tie.Need-array-copy-out-channel Inv-loop μ-loop
-array-copy-out-channel c = search needs
+  abbrev k : ℕ
+  k = c .before .before .before .loop .k
 
-entry-of-requires : tie.Need-entry-of-requires Inv-loop μ-loop
-entry-of-requires c κs = search needs
+  inside : k < length (start .args .t4)
+  inside = omega (arith, whole start)
 
-array-write-entry : tie.Need-array-write-entry Inv-loop μ-loop
-array-write-entry c = search needs
-
-target-of-requires : tie.Need-target-of-requires Inv-loop μ-loop
-target-of-requires c κs = search needs
-
-array-write-target : tie.Need-array-write-target Inv-loop μ-loop
-array-write-target c = search needs
-
-moving-of-requires : tie.Need-moving-of-requires Inv-loop μ-loop
-moving-of-requires c κs = search needs
-
-array-write-moving : tie.Need-array-write-moving Inv-loop μ-loop
-array-write-moving c = search needs
-
-add-k : tie.Need-add-k Inv-loop μ-loop
-add-k c = search needs
+  judged : c .channel-fits .result ≡ test (start .args .started) (start .args .node-count) (start .args .channel-count)
+      (start .args .t4) k
+  judged =
+      c .channel-fits .ensures
+      ∙ ap (λ ch. channelFits (start .args .started) (start .args .node-count) (ltb k (start .args .channel-count)) ch)
+      (getD-within (start .args .t4) k _ blankChannel inside)
 
 loop-less : tie.Need-loop-less Inv-loop μ-loop
 loop-less c = omega arith
 
 loop-again : tie.Need-loop-again Inv-loop μ-loop
 loop-again c =
-    let t = c .before .before .before .before in
-    let inv = t .before .loop .inv in
-    let inside : t .before .loop .k < length (t .before .before .args .t1) = omega (arith, whole (t .before .before)) in (
+    let j = c .before .before .before in
+    let d = j .before in
+    let inv = d .before .before .before .loop .inv in (
       omega arith,
-      filled-more _ _ _ (t .before .loop .k) _ _ (inv .1) inside (c .before .before .entry-of .ensures),
-      filled-more _ _ _ (t .before .loop .k) _ _ (inv .2) inside (c .before .target-of .ensures),
-      filled-more _ _ _ (t .before .loop .k) _ _ (inv .3) inside (c .moving-of .ensures),
+      ⊎-elim (λ w. w .1 ∙ kept-wrong _ (k d) (refused (judged d) (w .0 .taken)))
+          (λ w. w .1 ∙ kept-right _ (k d) (inv .1) (granted (judged d) (w .0 .left))) (j .if1 .came),
+      filled-more _ _ _ (k d) _ _ (inv .2) (inside d) (c .before .before .entry-of .ensures),
+      filled-more _ _ _ (k d) _ _ (inv .3) (inside d) (c .before .target-of .ensures),
+      filled-more _ _ _ (k d) _ _ (inv .4) (inside d) (c .moving-of .ensures),
     )
 
 returns : tie.Need-returns Inv-loop μ-loop
-unfolding routesOf
+unfolding routesOf channelsFit
 returns c =
     let inv = c .before .loop .inv in
     let k = c .before .loop .k in
-    let past : length (c .before .before .args .t1) ≤ k = omega (arith, whole (c .before .before)) in
+    let end : k ≡ 64 = omega arith in
+    let past : length (c .before .before .args .t4) ≤ k = omega (arith, whole (c .before .before)) in
+    let args = c .before .before .args in
+    let found = inv .1 ∙ ap (λ m. allBelow m (test (args .started) (args .node-count) (args .channel-count) (args .t4))) end in
     λ i.
     record {
-      entry = filled-all _ _ _ k (inv .1) past i;
-      target = filled-all _ _ _ k (inv .2) past i;
-      moving = filled-all _ _ _ k (inv .3) past i;
+      fit = found i;
+      entry = filled-all _ _ _ k (inv .2) past i;
+      target = filled-all _ _ _ k (inv .3) past i;
+      moving = filled-all _ _ _ k (inv .4) past i;
     }
 
 pub routes-of-spec : {M : Type 1} → statement M
@@ -86,15 +98,16 @@ routes-of-spec =
     Inv-loop
     μ-loop
     loop-holds
-    mul-channel
-    array-copy-out-channel
-    entry-of-requires
-    array-write-entry
-    target-of-requires
-    array-write-target
-    moving-of-requires
-    array-write-moving
-    add-k
+    (λ c. search needs)
+    (λ c. search needs)
+    (λ c κs. search needs)
+    (λ c κs. search needs)
+    (λ c. search needs)
+    (λ c κs. search needs)
+    (λ c. search needs)
+    (λ c κs. search needs)
+    (λ c. search needs)
+    (λ c. search needs)
     loop-less
     loop-again
     returns)

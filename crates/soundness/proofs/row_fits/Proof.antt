@@ -7,9 +7,11 @@ use lib.ListN.{drop, length, length-drop}
 use lib.Seq.{length-take-le, take-all}
 use borrow.Author.Needs.{needs}
 use borrow.Author.Tests.{le-leb, lt-leb}
+use Rattle.batch.specs.Good.{isZero}
 use Rattle.network.specs.Counting.{allOf}
-use Rattle.soundness.specs.Test.{isZero, rowFits}
+use Rattle.soundness.specs.Test.{rowFits}
 use Rattle.soundness.proofs.Loops.{refused, granted, stopped}
+use Rattle.soundness.proofs.Cells.{every-all}
 use Rattle.soundness.proofs.row_fits.Statement.{statement}
 use Rattle.soundness.proofs.row_fits.Tie as tie
 
@@ -43,6 +45,7 @@ module _ (c : tie.After-all-zero) where
   judged : c .all-zero .result ≡ allOf isZero (drop used cells)
   judged =
       c .all-zero .ensures
+      ∙ every-all isZero _
       ∙ ap (allOf isZero) (take-all (length cells - used) (drop used cells) (omega (arith, length-drop used cells)))
 
 returns-2 : tie.Need-returns-2

@@ -4,17 +4,13 @@ use lib.Dec.{ltb}
 use native.Mathlib.Omega.{arith}
 use borrow.Author.Needs.{needs}
 use borrow.Author.Tests.{eq-eqb, ne-eqb, le-leb}
-use Rattle.network.specs.declared.Ring.{Ring}
 use Rattle.soundness.specs.Test.{startFits}
 use Rattle.soundness.proofs.start_fits.Statement.{statement}
 use Rattle.soundness.proofs.start_fits.Tie as tie
 
-abbrev given : tie.Else1 → Ring
-given c = c .before .before .args .ring
-
 returns : tie.Need-returns
 unfolding startFits
-returns c = rw (ne-eqb _ 1 (c .before .if1 .taken))
+returns c = rw (ne-eqb _ 1 (c .if1 .taken))
 
 returns-2 : tie.Need-returns-2
 unfolding startFits
@@ -23,30 +19,21 @@ returns-2 c = rw (c .before .if1 .left, c .if2 .taken)
 returns-3 : tie.Need-returns-3
 unfolding startFits
 returns-3 c =
-    rw (
-      c .before .before .if1 .left,
-      le-leb 1 (given (c .before .before) .«node_count») (omega (arith, c .before .if2 .left)),
-      c .if3 .taken,
-    )
-
-cast-result : tie.Need-cast-result
-cast-result c = search needs
-
-slot-count-requires : tie.Need-slot-count-requires
-slot-count-requires c κs = search needs
+    let args = c .before .before .before .args in
+    rw (c .before .before .if1 .left, le-leb 1 (args .node-count) (omega (arith, c .before .if2 .left)), c .if3 .taken)
 
 returns-4 : tie.Need-returns-4
 unfolding startFits
 returns-4 c =
     let d = c .before in
-    let ring = given (d .before .before) in
+    let args = d .before .before .before .args in
     rw (
       eq-eqb _ 1 (d .before .before .if1 .left),
-      le-leb 1 (ring .«node_count») (omega (arith, d .before .if2 .left)),
-      le-leb 1 (ring .«channel_count») (omega (arith, d .if3 .left)),
+      le-leb 1 (args .node-count) (omega (arith, d .before .if2 .left)),
+      le-leb 1 (args .channel-count) (omega (arith, d .if3 .left)),
     )
-    (ap (ltb (ring .«channel_count»)) (c .slot-count .ensures))
+    (ap (ltb (args .channel-count)) (c .slots-below .ensures))
 
 pub start-fits-spec : {M : Type 1} → statement M
 start-fits-spec =
-    tie.close (tie.spec returns returns-2 returns-3 cast-result slot-count-requires returns-4)
+    tie.close (tie.spec returns returns-2 returns-3 (λ c κs. search needs) returns-4)

@@ -10,7 +10,7 @@ use Rattle.soundness.proofs.used_channel.Statement.{statement}
 use Rattle.soundness.proofs.used_channel.Tie as tie
 
 abbrev given : tie.Else2 → tie.Start
-given c = c .before .before .before .before
+given c = c .before .before
 
 -- the clauses on the ends, and on the phase
 ends-fit : (c : tie.Else2) →
@@ -44,11 +44,8 @@ record-fits-requires c κs = search needs
 returns-4 : tie.Need-returns-4
 unfolding usedChannel
 returns-4 c =
-    rw (
-      ends-fit (c .before .before .before .before),
-      phase-fits (c .before .before),
-      refused (c .before .record-fits .ensures) (c .if4 .taken),
-    )
+    let d = c .before .before .before in
+    rw (ends-fit (d .before .before), phase-fits d, refused (c .before .record-fits .ensures) (c .if4 .taken))
 
 record-fits-requires-2 : tie.Need-record-fits-requires-2
 record-fits-requires-2 c κs = search needs
@@ -56,11 +53,9 @@ record-fits-requires-2 c κs = search needs
 returns-5 : tie.Need-returns-5
 unfolding usedChannel
 returns-5 c =
-    rw (
-      ends-fit (c .before .before .before .before .before),
-      phase-fits (c .before .before .before),
-      granted (c .before .before .record-fits .ensures) (c .before .if4 .left),
-    )
+    let e = c .before .before in
+    let d = e .before .before .before in
+    rw (ends-fit (d .before .before), phase-fits d, granted (e .before .record-fits .ensures) (e .if4 .left))
     (c .record-fits2 .ensures)
 
 pub used-channel-spec : {M : Type 1} → statement M

@@ -1,0 +1,2 @@
+-- The laws of receive and send.
+pub mod Offers

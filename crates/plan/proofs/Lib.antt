@@ -1,0 +1,2 @@
+-- The laws of the three calls that build a ring.
+pub mod Building

@@ -1,0 +1,3 @@
+-- The laws of the two questions.
+pub mod Standing
+pub mod Waiting

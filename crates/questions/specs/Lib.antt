@@ -1,0 +1,2 @@
+-- What the questions find in the arrays.
+pub mod Asked

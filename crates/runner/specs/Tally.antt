@@ -1,0 +1,44 @@
+-- The lines of a run as the program keeps them: the ring apart, and beside it the tally, which is all else of the session. What a line
+-- does to the tally is what `ended` and `passed` do to the session; proofs/Turns puts the two together. Assumes nothing.
+use Prim.Native.Nat.{ℕ}
+use mathlib.Core.Path.{_≡_}
+use mathlib.Core.Bool.{true, cond}
+use mathlib.Core.List.{List}
+use Rattle.network.specs.declared.Answer.{Answer}
+use Rattle.network.specs.declared.Ring.{Ring}
+use Rattle.runner.specs.declared.Session.{Session}
+use Rattle.runner.specs.declared.Tally.{Tally}
+use Rattle.runner.specs.declared.Turn.{Turn}
+use Rattle.runner.specs.Session.{isRefusal}
+use Rattle.runner.specs.Listing.{stopping}
+use Rattle.runner.specs.Run.{Placed}
+
+-- the session of a ring and a tally
+abbrev pub sessionOf : Ring → Tally → Session
+sessionOf ring t = record {
+  ring = ring;
+  place = t .place;
+  number = t .number;
+  accepted = t .accepted;
+  refused = t .refused;
+  over = t .over;
+}
+
+-- the tally after the last line
+abbrev pub closedTally : Tally → Tally
+closedTally t = record { place = t .place; number = t .number; accepted = t .accepted; refused = t .refused; over = true }
+
+-- the tally after a command with this answer
+abbrev pub countedTally : Tally → Answer → ℕ → Tally
+countedTally t answer next = record {
+  place = next;
+  number = stopping (t .number);
+  accepted = cond (isRefusal answer) (t .accepted) (stopping (t .accepted));
+  refused = cond (isRefusal answer) (stopping (t .refused)) (t .refused);
+  over = t .over;
+}
+
+-- what was told: a line put at a place of the buffer, and the tally after it
+pub record Told (text : List ℕ) (next : Tally) (at : ℕ) (before after : List ℕ) (turn : Turn) : Type 0 where
+  pub tally : turn .tally ≡ next
+  pub line : Placed text at before after (turn .written)

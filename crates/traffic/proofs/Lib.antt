@@ -1,0 +1,3 @@
+-- The laws of enter and move.
+pub mod Entries
+pub mod Move
