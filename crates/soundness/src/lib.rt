@@ -2,7 +2,7 @@
 // pass over the channels, one over the nodes, and one over the cells of buffers and lines, which marks every channel that it meets and
 // stops at one that is marked already. At the end a channel has to be marked exactly when its message is on the ring.
 //
-// Every call pays for this test, so it copies little: each part of the ring goes to one function, and records are lent from where they lie.
+// Every call pays for this test, so it copies little: each large part of the ring goes to one function, once.
 use batch::BatchRecord;
 use network::Channel;
 use network::Node;
