@@ -92,7 +92,7 @@ abbrev pub withChannelAt : Ring → ℕ → Channel → Ring
 withChannelAt ring k ch =
     ringWith ring (ring .nodes) (set (ring .channels) k ch) (ring .slots) (ring .lines) (ring .deliveries)
 
--- another phase alone; a record offered; answering with the record carried; at rest with nothing carried
+-- a channel with the same ends
 abbrev pub channelWith : Channel → ℕ → ℕ → BatchRecord → BatchRecord → Channel
 channelWith ch phase flag offer carried =
     record {
@@ -104,6 +104,7 @@ channelWith ch phase flag offer carried =
       carried = carried;
     }
 
+-- another phase alone; a record offered; answering with the record carried; at rest with nothing carried
 abbrev pub inPhase : ℕ → Channel → Channel
 inPhase phase ch = channelWith ch phase (ch .offered) (ch .offer) (ch .carried)
 

@@ -6,4 +6,3 @@ pub mod generate;
 pub mod listing;
 pub mod ring;
 pub mod tape;
-pub mod timing;
