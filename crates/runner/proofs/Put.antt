@@ -5,7 +5,7 @@ use mathlib.Core.List.{List}
 use native.Mathlib.Omega.{arith}
 use lib.ListN.{length}
 use borrow.Author.Tests.{le-leb}
-use Rattle.tape.specs.Bytes.{overwritten}
+use Rattle.wire.specs.Bytes.{overwritten}
 use Rattle.listing.specs.declared.Put.{Put}
 use Rattle.listing.specs.Put.{putAnswer, put}
 use Rattle.runner.specs.Run.{lineRoom, Placed, endOfPut}

@@ -8,8 +8,8 @@ use native.Mathlib.Omega.{arith}
 use lib.ListN.{length, take, drop, length-append}
 use lib.Seq.{take-at, drop-at, drop-drop, length-take-le}
 use Rattle.network.proofs.Cases.{by-same}
-use Rattle.tape.specs.Bytes.{overwritten}
-use Rattle.tape.proofs.Buffer.{length-overwritten}
+use Rattle.wire.specs.Bytes.{overwritten}
+use Rattle.wire.proofs.Buffer.{length-overwritten}
 use Rattle.runner.specs.declared.Session.{Session}
 use Rattle.runner.specs.declared.Progress.{Progress}
 use Rattle.runner.specs.Session.{Printed, next, lines, afterLines}

@@ -5,7 +5,7 @@ use mathlib.Core.Path.{_≡_}
 use mathlib.Core.Bool.{true, false}
 use mathlib.Core.List.{List, [], _++_}
 use lib.ListN.{length, take, drop}
-use Rattle.tape.specs.Bytes.{overwritten}
+use Rattle.wire.specs.Bytes.{overwritten}
 use Rattle.listing.specs.declared.Put.{Put}
 use Rattle.listing.specs.declared.Put.the-variants.{Written, NoRoom}
 use Rattle.runner.specs.declared.Session.{Session}

@@ -19,13 +19,14 @@ use Rattle.tape.specs.declared.Writing.{Writing}
 use Rattle.tape.specs.declared.Writing.the-variants.{Written}
 use Rattle.tape.specs.declared.Writing.the-variants as writing
 use Rattle.refusal.specs.declared.Refusal.{Refusal}
-use Rattle.tape.specs.Bytes.{Bytes, overwritten}
+use Rattle.wire.specs.Bytes.{Bytes, overwritten}
+use Rattle.wire.specs.Record.{RecordFits}
 use Rattle.tape.specs.Table.{Row, rowOf, codeOf, bytesOf, width, plain}
 use Rattle.tape.specs.Tape.{withNone, readRow, readAt, writeAt, afterWrite}
-use Rattle.tape.specs.RoundTrip.{found, OperandsFit, RecordFits, WrittenReadsBack, PlainReadsBack, ReadWritesBack, ReadIsPlain}
+use Rattle.tape.specs.RoundTrip.{found, OperandsFit, WrittenReadsBack, PlainReadsBack, ReadWritesBack, ReadIsPlain}
 use Rattle.tape.specs.RoundTrip.{ReadsBack, WritesBack}
-use Rattle.tape.proofs.Buffer.{length-overwritten, drop-overwritten, put-same}
-use Rattle.tape.proofs.Record.{bytes-drop}
+use Rattle.wire.proofs.Buffer.{length-overwritten, drop-overwritten, put-same}
+use Rattle.wire.proofs.Bytes.{bytes-drop}
 use Rattle.tape.proofs.Cases.{by-row, row-found}
 use Rattle.tape.proofs.Rows.{length-bytesOf, command-read, row-own, row-written}
 
@@ -130,7 +131,7 @@ written-reads-back bytes place next c f g e =
     let k = room-of bytes place next c e in
     let r = rowOf (codeOf (c .action)) in
     let new = bytesOf c in
-    let long : length new ≡ r .width = length-bytesOf (c .action) (c .«record») (g .name-width) in
+    let long : length new ≡ r .width = length-bytesOf (c .action) (c .«record») g in
     let buffer = overwritten bytes place new in
     let same : length buffer ≡ length bytes = length-overwritten bytes new place (omega (arith, k .room)) in
     let rest = drop (place + length new) bytes in

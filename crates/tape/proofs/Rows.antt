@@ -13,11 +13,13 @@ use borrow.Author.Tests.{ne-eqb, eqb-true}
 use Rattle.batch.specs.declared.BatchRecord.{BatchRecord}
 use Rattle.tape.specs.declared.Action.{Action}
 use Rattle.tape.specs.declared.Action.the-variants.{AddNode, AddChannel, Start, Receive, Send, Enter, Move}
-use Rattle.tape.specs.Bytes.{little, part, numberAt, Bytes}
-use Rattle.tape.specs.Table.{Row, noRow, rowOf, find, commands, plain, codeOf, operands, bytesOf, width, recordBytes, recordIn}
-use Rattle.tape.specs.RoundTrip.{OperandsFit, RecordFits}
-use Rattle.tape.proofs.Numbers.{number-little}
-use Rattle.tape.proofs.Record.{record-read, record-written, part-written, bytes-drop}
+use Rattle.wire.specs.Bytes.{little, part, numberAt, Bytes}
+use Rattle.wire.specs.Record.{recordLength, recordBytes, recordIn, RecordFits}
+use Rattle.tape.specs.Table.{Row, noRow, rowOf, find, commands, plain, codeOf, operands, bytesOf, width}
+use Rattle.tape.specs.RoundTrip.{OperandsFit}
+use Rattle.wire.proofs.Numbers.{number-little}
+use Rattle.wire.proofs.Bytes.{part-written, bytes-drop}
+use Rattle.wire.proofs.Record.{length-record, record-reads-back, record-writes-back}
 
 -- a byte that is none of the command bytes, in the form in which a `match` tells it
 abbrev Other : ℕ → Type 0
@@ -41,14 +43,14 @@ unknown code n =
 -- ---- a command as bytes, and its row
 
 -- a command is as many bytes as its width
-pub length-bytesOf : (a : Action) (r : BatchRecord) → length (r .name) ≡ 32
+pub length-bytesOf : (a : Action) (r : BatchRecord) → RecordFits r
     → length (codeOf a ∷ operands a r) ≡ rowOf (codeOf a) .width
-unfolding little rowOf find commands operands recordBytes
+unfolding little rowOf find commands operands
 length-bytesOf (AddNode slots) r h = refl
 length-bytesOf (AddChannel sender receiver) r h = refl
 length-bytesOf Start r h = refl
 length-bytesOf (Receive channel) r h = refl
-length-bytesOf (Send channel) r h = rw h
+length-bytesOf (Send channel) r h = rw (length-record h)
 length-bytesOf (Enter node) r h = refl
 length-bytesOf (Move node) r h = refl
 
@@ -60,7 +62,7 @@ command-read (AddNode slots) r rest f g = rw (number-little 1 slots f)
 command-read (AddChannel sender receiver) r rest f g = rw (number-little 1 sender (f .0), number-little 1 receiver (f .1))
 command-read Start r rest f g = refl
 command-read (Receive channel) r rest f g = rw (number-little 1 channel f)
-command-read (Send channel) r rest f g = rw (number-little 1 channel f, record-read r rest g)
+command-read (Send channel) r rest f g = rw (number-little 1 channel f, record-reads-back r rest g)
 command-read (Enter node) r rest f g = rw (number-little 1 node f)
 command-read (Move node) r rest f g = rw (number-little 1 node f)
 
@@ -131,8 +133,8 @@ module _ (t : List ℕ) (b : Bytes t) where
       (λ k p h. operand-and 0x11 1 (little 1 (numberAt 2 1 t)) (e ∙ k) (omega arith) (part-written 2 1 t b h))
       (λ k p h. head 0x12 (e ∙ k) h)
       (λ k p h. one-operand 0x20 (e ∙ k) h)
-      (λ k p h. operand-and 0x21 40 (recordBytes (recordIn (drop 2 t))) (e ∙ k) (omega arith)
-      (record-written (drop 2 t) (bytes-drop 2 t b) (rw length-drop (omega arith))))
+      (λ k p h. operand-and 0x21 recordLength (recordBytes (recordIn (drop 2 t))) (e ∙ k) (omega arith)
+      (record-writes-back (drop 2 t) (bytes-drop 2 t b) (rw length-drop (omega arith))))
       (λ k p h. one-operand 0x22 (e ∙ k) h)
       (λ k p h. one-operand 0x23 (e ∙ k) h)
       (λ p. absurd (lt-irrefl 0 p))

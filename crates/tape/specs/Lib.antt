@@ -1,5 +1,4 @@
 -- The definitions that the contracts cite, and the statements of the theorems.
-pub mod Bytes
 pub mod Table
 pub mod Tape
 pub mod RoundTrip

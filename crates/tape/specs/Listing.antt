@@ -1,14 +1,13 @@
--- The send command of document 01's listing, as a command and as its 42 bytes, and temperatures at the ends of 16 bits.
+-- The send command of document 01's listing, as a command and as its 42 bytes.
 -- Assumes nothing.
 use Prim.Native.Nat.{ℕ}
 use mathlib.Core.Path.{_≡_}
 use mathlib.Core.List.{List, [], _∷_, _++_}
-use lib.IntN.{pos, negsuc}
+use lib.IntN.{pos}
 use lib.ListN.{replicate}
 use Rattle.batch.specs.declared.BatchRecord.{BatchRecord}
 use Rattle.tape.specs.declared.Action.the-variants.{Send}
 use Rattle.tape.specs.declared.Command.{Command}
-use Rattle.tape.specs.Bytes.{little, twos}
 use Rattle.tape.specs.Table.{bytesOf}
 use Rattle.tape.specs.Tape.{readAt}
 use Rattle.tape.specs.RoundTrip.{found}
@@ -27,10 +26,3 @@ sentBytes =
 
 abbrev pub SentAsListed : Type 0
 SentAsListed = (bytesOf sent ≡ sentBytes) × (readAt sentBytes 0 ≡ found 42 sent)
-
--- -1, the least number and the greatest
-abbrev pub Ends : Type 0
-Ends =
-    (little 2 (twos (negsuc 0)) ≡ 0xFF ∷ 0xFF ∷ [])
-    × (little 2 (twos (negsuc 32767)) ≡ 0x00 ∷ 0x80 ∷ [])
-    × (little 2 (twos (pos 32767)) ≡ 0xFF ∷ 0x7F ∷ [])

@@ -1,11 +1,10 @@
 -- What is claimed of reading and writing together: what was written reads back, and what was read writes back.
 -- Assumes nothing.
-use Prim.Native.Nat.{ℕ, _+_, _<_, _^_}
+use Prim.Native.Nat.{ℕ, _+_, _<_}
 use mathlib.Core.Path.{_≡_}
 use mathlib.Core.List.{List}
-use lib.ListN.{length}
-use lib.Signed.{mag}
-use Rattle.batch.specs.declared.BatchRecord.{BatchRecord}
+use Rattle.wire.specs.Bytes.{Bytes, overwritten}
+use Rattle.wire.specs.Record.{RecordFits}
 use Rattle.tape.specs.declared.Action.{Action}
 use Rattle.tape.specs.declared.Action.the-variants.{AddNode, AddChannel, Start, Receive, Send, Enter, Move}
 use Rattle.tape.specs.declared.Command.{Command}
@@ -16,11 +15,10 @@ use Rattle.tape.specs.declared.Reading.{Reading}
 use Rattle.tape.specs.declared.Writing.{Writing}
 use Rattle.tape.specs.declared.Writing.the-variants.{Written}
 use Rattle.tape.specs.declared.Writing.the-variants as writing
-use Rattle.tape.specs.Bytes.{Bytes, overwritten}
 use Rattle.tape.specs.Table.{bytesOf, width, plain}
 use Rattle.tape.specs.Tape.{readAt, writeAt}
 
--- the values that the fields of a command can hold, by their types
+-- the values that the operands of a command can hold, by their types
 abbrev pub OperandsFit : Action → Type 0
 OperandsFit (AddNode slots) = slots < 256
 OperandsFit (AddChannel sender receiver) = (sender < 256) × (receiver < 256)
@@ -29,14 +27,6 @@ OperandsFit (Receive channel) = channel < 256
 OperandsFit (Send channel) = channel < 256
 OperandsFit (Enter node) = node < 256
 OperandsFit (Move node) = node < 256
-
-pub record RecordFits (r : BatchRecord) : Type 0 where
-  pub batch : r .batch .0 < 2 ^ 32
-  pub vessel : r .vessel < 256
-  pub temperature : mag (r .temperature) < 2 ^ 15
-  pub name-length : r .«name_length» < 256
-  pub name-width : length (r .name) ≡ 32
-  pub name : Bytes (r .name)
 
 -- reading finds a command, and the place after it
 abbrev pub found : ℕ → Command → Reading

@@ -10,21 +10,8 @@ use Rattle.batch.specs.Blank.{noRecord}
 use Rattle.tape.specs.declared.Action.{Action}
 use Rattle.tape.specs.declared.Action.the-variants.{AddNode, AddChannel, Start, Receive, Send, Enter, Move}
 use Rattle.tape.specs.declared.Command.{Command}
-use Rattle.tape.specs.Bytes.{little, part, numberAt, twos, signed}
-
--- a record's bytes, and the record that bytes stand for
-unfoldable pub recordBytes : BatchRecord → List ℕ
-recordBytes r =
-    little 4 (r .batch .0) ++ little 1 (r .vessel) ++ little 2 (twos (r .temperature)) ++ little 1 (r .«name_length») ++ r .name
-
-unfoldable pub recordIn : List ℕ → BatchRecord
-recordIn b = record {
-  batch = record { 0 = numberAt 0 4 b };
-  vessel = numberAt 4 1 b;
-  temperature = signed (numberAt 5 2 b);
-  «name_length» = numberAt 7 1 b;
-  name = part 8 32 b;
-}
+use Rattle.wire.specs.Bytes.{little, numberAt}
+use Rattle.wire.specs.Record.{recordBytes, recordIn}
 
 -- the command of an action that has no record
 abbrev pub bareOf : Action → Command

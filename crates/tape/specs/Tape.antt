@@ -17,7 +17,7 @@ use Rattle.tape.specs.declared.ReadAnswer.the-variants as answer
 use Rattle.tape.specs.declared.Reading.{Reading}
 use Rattle.tape.specs.declared.Writing.{Writing}
 use Rattle.tape.specs.declared.Writing.the-variants as writing
-use Rattle.tape.specs.Bytes.{overwritten}
+use Rattle.wire.specs.Bytes.{overwritten}
 use Rattle.tape.specs.Table.{Row, rowOf, width, bytesOf, bareOf}
 
 -- an answer with no command: the blank one stands beside it

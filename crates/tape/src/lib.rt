@@ -1,14 +1,13 @@
 // The command tape: its commands, a reader and a writer. A tape is a slice of bytes; a command stands at a place of it, its
 // command byte first, then its operands, low byte first. Both answer what the definitions in specs/ say of every place,
 // every byte and every operand value; what was written reads back, and what was read writes back.
-mod fields;
-
 use batch::BatchRecord;
 use refusal::Refusal;
+use wire::fields;
 ghost use mathlib.Core.Path.{_≡_};
 ghost use Prim.Native.Nat.{_≤_};
 ghost use lib.ListN.{length, drop};
-ghost use Rattle.tape.specs.Bytes.{overwritten};
+ghost use Rattle.wire.specs.Bytes.{overwritten};
 ghost use Rattle.tape.specs.Table.{rowOf, codeOf, bytesOf, width, bareOf};
 ghost use Rattle.tape.specs.Tape.{readAt, writeAt, afterWrite, withNone};
 ghost use Rattle.tape.specs.RoundTrip.{ReadsBack, WritesBack};
@@ -101,7 +100,7 @@ fn command_in(code: u8, bytes: &[u8]) -> Command
         0x20 => bare(Action::Receive(fields::u8_at(bytes, 1))),
         0x21 => {
             let action = Action::Send(fields::u8_at(bytes, 1));
-            let record = fields::record_in(&bytes[2..]);
+            let record = wire::record_in(&bytes[2..]);
             Command { action, record }
         }
         0x22 => bare(Action::Enter(fields::u8_at(bytes, 1))),
@@ -163,7 +162,7 @@ fn put_command(bytes: &mut [u8], command: Command)
         Action::Send(channel) => {
             let record = command.record;
             fields::put_pair(bytes, code, channel);
-            fields::put_record(&mut bytes[2..], record);
+            wire::put_record(&mut bytes[2..], record);
         }
         Action::Enter(node) => fields::put_pair(bytes, code, node),
         Action::Move(node) => fields::put_pair(bytes, code, node),

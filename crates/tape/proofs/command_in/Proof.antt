@@ -4,7 +4,7 @@ use lib.ListN.{length-drop}
 use borrow.Author.Needs.{needs}
 use Rattle.tape.specs.Table.{Row, rowOf, find, commands}
 use Rattle.tape.proofs.Rows.{unknown}
-use Rattle.tape.proofs.Buffer.{tail}
+use Rattle.wire.proofs.Buffer.{tail}
 use Rattle.tape.proofs.command_in.Statement.{statement}
 use Rattle.tape.proofs.command_in.Tie as tie
 

@@ -5,9 +5,10 @@ use mathlib.Core.List.{_++_}
 use native.Mathlib.Omega.{arith}
 use borrow.Author.Needs.{needs}
 use lib.ListN.{length, length-drop}
-use Rattle.tape.specs.Bytes.{little}
-use Rattle.tape.specs.Table.{rowOf, find, commands, width, recordBytes, operands, bytesOf}
-use Rattle.tape.proofs.Buffer.{tail, next}
+use Rattle.wire.specs.Bytes.{little}
+use Rattle.wire.specs.Record.{recordBytes}
+use Rattle.tape.specs.Table.{rowOf, find, commands, width, operands, bytesOf}
+use Rattle.wire.proofs.Buffer.{tail, next}
 use Rattle.tape.proofs.put_command.Statement.{statement}
 use Rattle.tape.proofs.put_command.Tie as tie
 

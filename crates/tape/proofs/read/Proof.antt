@@ -10,7 +10,7 @@ use Rattle.tape.specs.declared.Reading.{Reading}
 use Rattle.tape.specs.Table.{Row, rowOf}
 use Rattle.tape.specs.Tape.{readAt, readRow}
 use Rattle.tape.specs.RoundTrip.{found, WritesBack}
-use Rattle.tape.proofs.Buffer.{tail}
+use Rattle.wire.proofs.Buffer.{tail}
 use Rattle.tape.proofs.Cases.{by-row, row-unknown, row-cut, row-found}
 use Rattle.tape.proofs.RoundTrip.{writes-back}
 use Rattle.tape.proofs.read.Statement.{statement}

@@ -12,9 +12,10 @@ use Rattle.tape.specs.Table.{rowOf, width, bytesOf}
 use Rattle.tape.specs.declared.Action.{Action}
 use Rattle.tape.specs.declared.Action.the-variants.{AddNode, AddChannel, Start, Receive, Send, Enter, Move}
 use Rattle.tape.specs.declared.Writing.the-variants.{Written}
-use Rattle.tape.specs.RoundTrip.{OperandsFit, RecordFits}
+use Rattle.wire.specs.Record.{RecordFits}
+use Rattle.tape.specs.RoundTrip.{OperandsFit}
 use Rattle.tape.specs.Tape.{writeAt, afterWrite}
-use Rattle.tape.proofs.Buffer.{tail, lent}
+use Rattle.wire.proofs.Buffer.{tail, lent}
 use Rattle.tape.proofs.RoundTrip.{reads-back}
 use Rattle.tape.proofs.Action.{the-row}
 use Rattle.tape.proofs.write.Statement.{statement}

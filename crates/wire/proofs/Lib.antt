@@ -1,0 +1,6 @@
+-- The laws that the proofs of the functions and of the theorems cite.
+pub mod Numbers
+pub mod Bytes
+pub mod Signed
+pub mod Buffer
+pub mod Record

@@ -1,0 +1,45 @@
+-- A batch record as bytes, in the order of document 01's command tape: batch number 4, vessel 1, temperature 2, name length 1, name 32.
+-- What was written is read, and what was read is written. Assumes nothing.
+use Prim.Native.Nat.{ℕ, _<_, _≤_, _^_}
+use mathlib.Core.Path.{_≡_}
+use mathlib.Core.List.{List, _++_}
+use lib.ListN.{length, take}
+use lib.Signed.{mag}
+use Rattle.batch.specs.declared.BatchRecord.{BatchRecord}
+use Rattle.batch.specs.Good.{nameLimit}
+use Rattle.wire.specs.Bytes.{little, part, numberAt, twos, signed, Bytes}
+
+-- how many bytes a record takes
+abbrev pub recordLength : ℕ
+recordLength = 40
+
+-- a record's bytes, and the record that bytes stand for
+unfoldable pub recordBytes : BatchRecord → List ℕ
+recordBytes r =
+    little 4 (r .batch .0) ++ little 1 (r .vessel) ++ little 2 (twos (r .temperature)) ++ little 1 (r .«name_length») ++ r .name
+
+unfoldable pub recordIn : List ℕ → BatchRecord
+recordIn b = record {
+  batch = record { 0 = numberAt 0 4 b };
+  vessel = numberAt 4 1 b;
+  temperature = signed (numberAt 5 2 b);
+  «name_length» = numberAt 7 1 b;
+  name = part 8 nameLimit b;
+}
+
+-- the values that the fields of a record can hold, by their types
+pub record RecordFits (r : BatchRecord) : Type 0 where
+  pub batch : r .batch .0 < 2 ^ 32
+  pub vessel : r .vessel < 256
+  pub temperature : mag (r .temperature) < 2 ^ 15
+  pub name-length : r .«name_length» < 256
+  pub name-width : length (r .name) ≡ nameLimit
+  pub name : Bytes (r .name)
+
+-- what was written is read, whatever follows it
+abbrev pub RecordReadsBack : Type 0
+RecordReadsBack = (r : BatchRecord) (rest : List ℕ) → RecordFits r → recordIn (recordBytes r ++ rest) ≡ r
+
+-- what was read is written
+abbrev pub RecordWritesBack : Type 0
+RecordWritesBack = (b : List ℕ) → Bytes b → recordLength ≤ length b → recordBytes (recordIn b) ≡ take recordLength b

@@ -1,0 +1,92 @@
+// A batch record as bytes, 40 of them: the form in which a tape and a ring's memory hold one. The reader answers the record that the
+// bytes stand for; the writer is lent the part of the buffer that begins with the record, and lends its fields their parts.
+// What was written is read and what was read is written (specs/Record.antt).
+pub mod fields;
+
+use batch::BatchNo;
+use batch::BatchRecord;
+ghost use mathlib.Core.Path.{_≡_};
+ghost use Prim.Native.Nat.{_+_, _≤_};
+ghost use lib.ListN.{length, drop};
+ghost use Rattle.batch.specs.Good.{nameLimit};
+ghost use Rattle.wire.specs.Bytes.{part, overwritten};
+ghost use Rattle.wire.specs.Record.{recordLength, recordBytes, recordIn};
+
+// How many bytes a record takes.
+pub const RECORD_LENGTH: usize = 40;
+
+// The bytes of a name, from a place on.
+fn name_at(bytes: &[u8], at: usize) -> [u8; 32]
+    requires { ⌜ at + nameLimit ≤ length (now bytes) ⌝ }
+    ensures { λ r. ⌜ r ≡ part at nameLimit (now (bytes .entry)) ⌝ }
+{
+    let mut name = [0u8; 32];
+    let mut i = 0;
+    while i < 32 {
+        name[i] = bytes[at + i];
+        i += 1;
+    }
+    name
+}
+
+// The record that the bytes begin with.
+pub fn record_in(bytes: &[u8]) -> BatchRecord
+    requires { ⌜ recordLength ≤ length (now bytes) ⌝ }
+    ensures { λ r. ⌜ r ≡ recordIn (now (bytes .entry)) ⌝ }
+{
+    let batch = BatchNo(fields::u32_at(bytes, 0));
+    let vessel = fields::u8_at(bytes, 4);
+    let temperature = fields::i16_at(bytes, 5);
+    let name_length = fields::u8_at(bytes, 7);
+    let name = name_at(bytes, 8);
+    BatchRecord {
+        batch,
+        vessel,
+        temperature,
+        name_length,
+        name,
+    }
+}
+
+// The record at a place.
+pub fn record_at(bytes: &[u8], place: usize) -> BatchRecord
+    requires { ⌜ place + recordLength ≤ length (now bytes) ⌝ }
+    ensures { λ r. ⌜ r ≡ recordIn (drop place (now (bytes .entry))) ⌝ }
+{
+    record_in(&bytes[place..])
+}
+
+// Puts the bytes of a name at the front of the bytes.
+fn put_name(bytes: &mut [u8], name: [u8; 32])
+    requires { ⌜ nameLimit ≤ length (now bytes) ⌝ }
+    ensures { λ _. ⌜ now (bytes .exit) ≡ overwritten (now (bytes .entry)) 0 name ⌝ }
+{
+    let mut i = 0;
+    while i < 32 {
+        bytes[i] = name[i];
+        i += 1;
+    }
+}
+
+// Puts a record at the front of the bytes.
+pub fn put_record(bytes: &mut [u8], record: BatchRecord)
+    requires { ⌜ recordLength ≤ length (now bytes) ⌝ }
+    ensures { λ _. ⌜ now (bytes .exit) ≡ overwritten (now (bytes .entry)) 0 (recordBytes «record») ⌝ }
+{
+    let number = record.batch.0;
+    let temperature = record.temperature;
+    let name = record.name;
+    fields::put_u32(bytes, number);
+    fields::put_u8(&mut bytes[4..], record.vessel);
+    fields::put_i16(&mut bytes[5..], temperature);
+    fields::put_u8(&mut bytes[7..], record.name_length);
+    put_name(&mut bytes[8..], name);
+}
+
+// Puts a record at a place, and changes nothing before or past it.
+pub fn put_record_at(bytes: &mut [u8], place: usize, record: BatchRecord)
+    requires { ⌜ place + recordLength ≤ length (now bytes) ⌝ }
+    ensures { λ _. ⌜ now (bytes .exit) ≡ overwritten (now (bytes .entry)) place (recordBytes «record») ⌝ }
+{
+    put_record(&mut bytes[place..], record);
+}
