@@ -12,7 +12,7 @@ extern "C" {
 }
 
 /// Room for the longest listing: 60,000 lines, and a line more than the last.
-const ROOM: usize = 60_002 * 128;
+const ROOM: usize = 60_002 * 160;
 
 fn proved(tape: &[u8], out: &mut Vec<u8>) {
     // The function writes at most `room` bytes from the buffer's beginning, and all that it answers is written.

@@ -2,17 +2,17 @@
 -- a limit or a clause can change behind its name. Assumes nothing.
 use mathlib.Core.Path.{_≡_, refl, sym, ap, _∙_}
 use mathlib.Core.Bool.{Bool, true, false, not, _&&_, false≢true, and-eq-true-iff}
-use Prim.Native.Nat.{ℕ, _≤_, _<_}
+use Prim.Native.Nat.{ℕ, _≤_, _<_, _^_}
 use lib.Dec.{leb, ltb}
 use lib.IntN.{ℤ, pos, negsuc}
 use lib.Signed.{leZ, ltZ}
-use borrow.Author.Tests.{eq-eqb, ne-eqb, le-leb, lt-leb, ltb-true, ltb-false}
-use Rattle.refusal.specs.declared.Refusal.{Refusal}
+use lib.ListN.{length}
+use borrow.Author.Tests.{eq-eqb, ne-eqb, le-leb, lt-leb, lt-ltb, ltb-true, ltb-false}
 use Rattle.refusal.specs.declared.Refusal.the-variants.{BatchNumberZero, TemperatureOutOfRange, NameTooLong, BadName}
 use Rattle.batch.specs.declared.BatchRecord.{BatchRecord}
 use Rattle.batch.specs.declared.Verdict.{Verdict}
 use Rattle.batch.specs.declared.Verdict.the-variants.{Good, Refused}
-use Rattle.batch.specs.Good.{coldest, hottest, nameLimit, batchGood, tempGood, nameLengthGood, nameGood}
+use Rattle.batch.specs.Good.{coldest, hottest, nameLimit, batchGood, tempGood, nameLengthGood, nameGood, widthsGood}
 use Rattle.batch.specs.Good.{goodRecord, verdictOf, GoodExactly, GoodNumber}
 
 -- by cases on a test, each with the test's outcome in hand
@@ -35,6 +35,14 @@ leZ-not-ltZ (negsuc a) (negsuc b) = leb-not-ltb b a
 abbrev pub accepted : Verdict → Bool
 accepted Good = true
 accepted (Refused x) = false
+
+-- the clauses that a good record passes
+pub record Passes (r : BatchRecord) : Type 0 where
+  pub number : batchGood r ≡ true
+  pub degrees : tempGood r ≡ true
+  pub size : nameLengthGood r ≡ true
+  pub name : nameGood r ≡ true
+  pub widths : widthsGood r ≡ true
 
 module _ (r : BatchRecord) where
   -- each clause by its tests
@@ -59,6 +67,12 @@ module _ (r : BatchRecord) where
   unfolding nameLengthGood
   name-long h = lt-leb (r .«name_length») nameLimit h
 
+  pub widths-held : r .batch .0 < 2 ^ 32 → r .vessel < 256 → length (r .name) ≡ nameLimit → widthsGood r ≡ true
+  unfolding widthsGood
+  widths-held number vessel cells =
+      λ i.
+      lt-ltb (r .batch .0) (2 ^ 32) number i && lt-ltb (r .vessel) 256 vessel i && eq-eqb (length (r .name)) nameLimit cells i
+
   -- the first refusal that applies, given the clauses before it
   pub verdict-batch : batchGood r ≡ false → verdictOf r ≡ Refused BatchNumberZero
   unfolding verdictOf
@@ -78,19 +92,19 @@ module _ (r : BatchRecord) where
   verdict-name b t l n = rw (b, t, l, n)
 
   pub verdict-good : batchGood r ≡ true → tempGood r ≡ true → nameLengthGood r ≡ true → nameGood r ≡ true
-      → verdictOf r ≡ Good
+      → widthsGood r ≡ true → verdictOf r ≡ Good
   unfolding verdictOf
-  verdict-good b t l n = rw (b, t, l, n)
+  verdict-good b t l n w = rw (b, t, l, n, w)
 
   -- a good record passes each clause
-  pub good-clauses : goodRecord r ≡ true
-      → (batchGood r ≡ true) × (tempGood r ≡ true) × (nameLengthGood r ≡ true) × (nameGood r ≡ true)
+  pub good-clauses : goodRecord r ≡ true → Passes r
   unfolding goodRecord
   good-clauses e =
-      let n = and-eq-true-iff (batchGood r && tempGood r && nameLengthGood r) (nameGood r) .0 e in
-      let l = and-eq-true-iff (batchGood r && tempGood r) (nameLengthGood r) .0 (n .0) in
+      let w = and-eq-true-iff _ (widthsGood r) .0 e in
+      let n = and-eq-true-iff _ (nameGood r) .0 (w .0) in
+      let l = and-eq-true-iff _ (nameLengthGood r) .0 (n .0) in
       let t = and-eq-true-iff (batchGood r) (tempGood r) .0 (l .0) in
-      (t .0, t .1, l .1, n .1)
+      record { number = t .0; degrees = t .1; size = l .1; name = n .1; widths = w .1 }
 
   pub goodRecord-accepted : goodRecord r ≡ accepted (verdictOf r)
   unfolding goodRecord verdictOf
@@ -98,7 +112,9 @@ module _ (r : BatchRecord) where
       by-test (batchGood r) (λ b.
       by-test (tempGood r) (λ t.
       by-test (nameLengthGood r) (λ l.
-      by-test (nameGood r) (λ n. rw (b, t, l, n)) (λ n. rw (b, t, l, n)))
+      by-test (nameGood r) (λ n.
+      by-test (widthsGood r) (λ w. rw (b, t, l, n, w)) (λ w. rw (b, t, l, n, w)))
+      (λ n. rw (b, t, l, n)))
       (λ l. rw (b, t, l))) (λ t. rw (b, t))) (λ b. rw b)
 
 accepted-good : (v : Verdict) → accepted v ≡ true → v ≡ Good
@@ -110,4 +126,4 @@ good-exactly r =
     (λ e. accepted-good (verdictOf r) (sym (goodRecord-accepted r) ∙ e), λ e. goodRecord-accepted r ∙ ap accepted e)
 
 pub good-number : GoodNumber
-good-number r e z = false≢true (sym (batch-zero r z) ∙ good-clauses r e .0)
+good-number r e z = false≢true (sym (batch-zero r z) ∙ good-clauses r e .number)

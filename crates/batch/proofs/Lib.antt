@@ -1,3 +1,4 @@
+pub mod Places
 pub mod Name
 pub mod Good
 pub mod Blank

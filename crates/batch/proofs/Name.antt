@@ -2,15 +2,15 @@
 -- The loops go to their end and keep whether all was right so far.
 -- Assumes nothing.
 use mathlib.Core.Path.{_≡_, refl, _∙_}
-use mathlib.Core.Bool.{Bool, true, false, cond, _&&_, and-assoc, and-eq-true-iff}
+use mathlib.Core.Bool.{Bool, true, false, cond, _&&_, and-assoc}
 use mathlib.Core.List.{List, [], _∷_}
 use Prim.Native.Nat.{ℕ, zero, suc, _+_, _-_, _<_}
 use native.Mathlib.Numerals.{add-one}
 use native.Mathlib.Omega.{arith}
 use lib.ListN.{length, getD, take, drop}
-use native.Mathlib.Nat.{sub-zero, add-zero, not-suc-le-zero}
-use borrow.Author.Tests.{ltb-true, ltb-false, eqb-true}
-use lib.Dec.{eqb, ltb}
+use native.Mathlib.Nat.{sub-zero}
+use borrow.Author.Tests.{ltb-true, ltb-false}
+use lib.Dec.{ltb}
 use lib.Seq.{drop-cons, drop-length}
 use Rattle.batch.specs.Good.{every, isZero, isCharacter, nameCellsGood}
 use Rattle.batch.proofs.Good.{by-test}
@@ -68,21 +68,3 @@ module _ {whole : Bool} (before here later : Bool) where
 -- the end: no cell is to come
 pub turn-end : {whole : Bool} (before rest : Bool) → whole ≡ before && rest → rest ≡ true → whole ≡ before
 turn-end before rest e none = by-test before (λ b. e ∙ rw (b, none)) (λ b. e ∙ rw b)
-
--- a table that has at each place the place, by a test that is computed over the whole of it
-pub record CountsUp (xs : List ℕ) : Type 0 where
-  pub at : (k : ℕ) → k < length xs → getD xs k 0 ≡ k
-
-abbrev pub countsFrom : ℕ → List ℕ → Bool
-countsFrom i [] = true
-countsFrom i (x ∷ xs) = eqb x i && countsFrom (suc i) xs
-
-counted-from : (i : ℕ) (xs : List ℕ) → countsFrom i xs ≡ true → (k : ℕ) → k < length xs → getD xs k 0 ≡ i + k
-counted-from i [] t k h = absurd (not-suc-le-zero h)
-counted-from i (x ∷ xs) t zero h = rw add-zero (eqb-true x i (and-eq-true-iff (eqb x i) (countsFrom (suc i) xs) .0 t .0))
-counted-from i (x ∷ xs) t (suc k) h =
-    let later = counted-from (suc i) xs (and-eq-true-iff (eqb x i) (countsFrom (suc i) xs) .0 t .1) k (omega arith) in
-    omega (arith, later)
-
-pub counted : (xs : List ℕ) → countsFrom 0 xs ≡ true → CountsUp xs
-counted xs t = record { at = λ k h. omega (arith, counted-from 0 xs t k h) }

@@ -1,8 +1,7 @@
 -- Laws of "the same batch". Assumes nothing.
-use mathlib.Core.Path.{_≡_, ap₂}
+use mathlib.Core.Path.{ap₂}
 use lib.Dec.{eqb}
 use borrow.Author.Tests.{eqb-true, eq-eqb}
-use Rattle.batch.specs.declared.BatchRecord.{BatchRecord}
 use Rattle.batch.specs.Same.{sameBatch, SameExactly, NumberAlone}
 
 pub same-exactly : SameExactly

@@ -1,21 +1,12 @@
--- The record of a cell that holds nothing: every field is zero.
+-- The record that stands where there is none: every field is zero.
 -- Assumes nothing.
 use mathlib.Core.Path.{_≡_}
-use mathlib.Core.Logic.{_↔_}
-use mathlib.Core.Bool.{Bool, true, false, _&&_}
-use Prim.Native.Nat.{ℕ}
-use lib.IntN.{ℤ, pos, negsuc}
-use mathlib.Core.List.{List}
-use lib.Dec.{eqb}
-use lib.ListN.{length, replicate}
+use lib.IntN.{pos}
+use lib.ListN.{replicate}
 use Rattle.refusal.specs.declared.Refusal.the-variants.{BatchNumberZero}
-use Rattle.batch.specs.Good.{every, isZero, nameLimit, verdictOf}
+use Rattle.batch.specs.Good.{nameLimit, verdictOf}
 use Rattle.batch.specs.declared.BatchRecord.{BatchRecord}
 use Rattle.batch.specs.declared.Verdict.the-variants.{Refused}
-
-abbrev pub isZeroℤ : ℤ → Bool
-isZeroℤ (pos n) = isZero n
-isZeroℤ (negsuc n) = false
 
 unfoldable pub noRecord : BatchRecord
 noRecord =
@@ -27,22 +18,6 @@ noRecord =
       name = replicate nameLimit 0;
     }
 
--- a name's cells, as many as there always are, and all zero
-abbrev pub zeroCells : List ℕ → Bool
-zeroCells cells = eqb (length cells) nameLimit && every isZero cells
-
-unfoldable pub blankRecord : BatchRecord → Bool
-blankRecord r =
-    isZero (r .batch .0)
-    && isZero (r .vessel)
-    && isZeroℤ (r .temperature)
-    && isZero (r .«name_length»)
-    && zeroCells (r .name)
-
--- a record is blank exactly when it is the one of zeros
-abbrev pub BlankExactly : Type 0
-BlankExactly = (r : BatchRecord) → (blankRecord r ≡ true) ↔ (r ≡ noRecord)
-
--- the record of zeros is refused, for its batch number
+-- it is refused, for its batch number
 abbrev pub NoRecordRefused : Type 0
 NoRecordRefused = verdictOf noRecord ≡ Refused BatchNumberZero

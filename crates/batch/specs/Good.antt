@@ -4,11 +4,11 @@ use mathlib.Core.Path.{_≡_}
 use mathlib.Core.Logic.{_↔_}
 use mathlib.Core.Bool.{Bool, true, false, not, _&&_}
 use mathlib.Core.List.{List, [], _∷_}
-use Prim.Native.Nat.{ℕ}
-use lib.Dec.{eqb, leb}
+use Prim.Native.Nat.{ℕ, _^_}
+use lib.Dec.{eqb, leb, ltb}
 use lib.IntN.{ℤ, pos, negℤ}
 use lib.Signed.{leZ}
-use lib.ListN.{take, drop}
+use lib.ListN.{length, take, drop}
 use Rattle.refusal.specs.declared.Refusal.{Refusal}
 use Rattle.refusal.specs.declared.Refusal.the-variants.{BatchNumberZero, TemperatureOutOfRange, NameTooLong, BadName}
 use Rattle.batch.specs.declared.BatchRecord.{BatchRecord}
@@ -46,7 +46,7 @@ isCharacter b = leb firstCharacter b && leb b lastCharacter
 unfoldable pub nameCellsGood : ℕ → List ℕ → Bool
 nameCellsGood n cells = every isCharacter (take n cells) && every isZero (drop n cells)
 
--- the four clauses of a good record
+-- the clauses of a good record
 unfoldable pub batchGood : BatchRecord → Bool
 batchGood r = not (isZero (r .batch .0))
 
@@ -59,21 +59,37 @@ nameLengthGood r = leb (r .«name_length») nameLimit
 unfoldable pub nameGood : BatchRecord → Bool
 nameGood r = nameCellsGood (r .«name_length») (r .name)
 
+-- the widths of the fields: a batch number of 32 bits, a vessel from 0 to 255, a name of 32 cells. Every record in memory has them
+-- by its types, so no record that the code can hold is judged differently; in a definition a number has no bound of its own
+unfoldable pub widthsGood : BatchRecord → Bool
+widthsGood r = ltb (r .batch .0) (2 ^ 32) && ltb (r .vessel) 256 && eqb (length (r .name)) nameLimit
+
 unfoldable pub goodRecord : BatchRecord → Bool
-goodRecord r = batchGood r && tempGood r && nameLengthGood r && nameGood r
+goodRecord r = batchGood r && tempGood r && nameLengthGood r && nameGood r && widthsGood r
+
+-- the record of these fields
+abbrev pub recordOf : ℕ → ℕ → ℤ → ℕ → List ℕ → BatchRecord
+recordOf number vessel temperature length name =
+    record {
+      batch = record { 0 = number };
+      vessel = vessel;
+      temperature = temperature;
+      «name_length» = length;
+      name = name;
+    }
 
 -- the refusal where the clause fails, else what the later clauses say
 abbrev pub unless : Bool → Refusal → Verdict → Verdict
 unless true refusal later = later
 unless false refusal later = Refused refusal
 
--- the first refusal that applies: 11, 12, 13, 14
+-- the first refusal that applies: 11, 12, 13, 14. The widths are judged with the last
 unfoldable pub verdictOf : BatchRecord → Verdict
 verdictOf r =
     unless (batchGood r) BatchNumberZero
     (unless (tempGood r) TemperatureOutOfRange
     (unless (nameLengthGood r) NameTooLong
-    (unless (nameGood r) BadName
+    (unless (nameGood r && widthsGood r) BadName
     Good)))
 
 -- a record is good exactly when no refusal applies

@@ -4,8 +4,9 @@
 use refusal::Refusal;
 ghost use mathlib.Core.Path.{_≡_};
 ghost use mathlib.Core.Bool.{cond};
-ghost use Rattle.batch.specs.Good.{every, isZero, isCharacter, nameCellsGood, verdictOf, goodRecord};
-ghost use Rattle.batch.specs.Blank.{noRecord, blankRecord};
+ghost use lib.ListN as ListN;
+ghost use Rattle.batch.specs.Good.{every, isZero, isCharacter, nameLimit, nameCellsGood, recordOf, verdictOf, goodRecord};
+ghost use Rattle.batch.specs.Blank.{noRecord};
 ghost use Rattle.batch.specs.Same.{sameBatch};
 
 // A batch number, a type of its own so that it is never taken for a node or a channel number. A good record's is not 0.
@@ -53,8 +54,9 @@ impl BatchRecord {
     }
 }
 
-// The place of each cell of a name, as bytes: they tell the characters from the fill in many cells at once.
-const PLACES: [u8; 32] = [
+// The numbers from 0 to 63 as bytes: a place in a name, a node or a channel by number. A loop that compares its places with them tests
+// many cells at once.
+pub const PLACES: [u8; 64] = [
     0,
     1,
     2,
@@ -87,6 +89,38 @@ const PLACES: [u8; 32] = [
     29,
     30,
     31,
+    32,
+    33,
+    34,
+    35,
+    36,
+    37,
+    38,
+    39,
+    40,
+    41,
+    42,
+    43,
+    44,
+    45,
+    46,
+    47,
+    48,
+    49,
+    50,
+    51,
+    52,
+    53,
+    54,
+    55,
+    56,
+    57,
+    58,
+    59,
+    60,
+    61,
+    62,
+    63,
 ];
 
 // Whether all the cells are zero. Nothing leaves the loop early, so the compiler tests many cells at once.
@@ -119,8 +153,9 @@ fn cell_good(character: bool, cell: u8) -> bool
 
 // Whether the first `length` cells are characters and the rest zeros. The wrong cells are counted, many at once: nothing leaves the loop
 // early.
-fn name_cells_good(length: u8, name: [u8; 32]) -> bool
-    ensures { λ r. ⌜ r ≡ nameCellsGood length name ⌝ }
+fn name_cells_good(length: u8, name: &[u8]) -> bool
+    requires { ⌜ ListN.length (now name) ≡ nameLimit ⌝ }
+    ensures { λ r. ⌜ r ≡ nameCellsGood length (now (name .entry)) ⌝ }
 {
     let places = PLACES;
     let mut wrong: u8 = 0;
@@ -135,14 +170,11 @@ fn name_cells_good(length: u8, name: [u8; 32]) -> bool
     wrong == 0
 }
 
-// The first refusal that applies, in the order of document 01.
-pub fn judge(record: BatchRecord) -> Verdict
-    ensures { λ r. ⌜ r ≡ verdictOf «record» ⌝ }
+// The first refusal that applies to a record of these fields, in the order of document 01. The vessel may be any.
+fn judge_fields(number: u32, vessel: u8, temperature: i16, name_length: u8, name: &[u8]) -> Verdict
+    requires { ⌜ ListN.length (now name) ≡ nameLimit ⌝ }
+    ensures { λ r. ⌜ r ≡ verdictOf (recordOf number vessel temperature «name_length» (now (name .entry))) ⌝ }
 {
-    let number = record.batch.0;
-    let temperature = record.temperature;
-    let name_length = record.name_length;
-    let name = record.name;
     if number == 0 {
         return Verdict::Refused(Refusal::BatchNumberZero);
     }
@@ -162,39 +194,32 @@ pub fn judge(record: BatchRecord) -> Verdict
     }
 }
 
-// Whether no refusal applies to the record.
-pub fn is_good(record: BatchRecord) -> bool
-    ensures { λ r. ⌜ r ≡ goodRecord «record» ⌝ }
+// The first refusal that applies to a record.
+pub fn judge(record: BatchRecord) -> Verdict
+    ensures { λ r. ⌜ r ≡ verdictOf «record» ⌝ }
 {
-    let verdict = judge(record);
+    let number = record.batch.0;
+    let temperature = record.temperature;
+    let name = record.name;
+    judge_fields(
+        number,
+        record.vessel,
+        temperature,
+        record.name_length,
+        &name,
+    )
+}
+
+// Whether no refusal applies to a record of these fields: for a record that is still in its bytes.
+pub fn fields_good(number: u32, vessel: u8, temperature: i16, name_length: u8, name: &[u8]) -> bool
+    requires { ⌜ ListN.length (now name) ≡ nameLimit ⌝ }
+    ensures { λ r. ⌜ r ≡ goodRecord (recordOf number vessel temperature «name_length» (now (name .entry))) ⌝ }
+{
+    let verdict = judge_fields(number, vessel, temperature, name_length, name);
     match verdict {
         Verdict::Good => true,
         Verdict::Refused(_) => false,
     }
-}
-
-// Whether every field is zero.
-pub fn is_blank(record: BatchRecord) -> bool
-    ensures { λ r. ⌜ r ≡ blankRecord «record» ⌝ }
-{
-    let number = record.batch.0;
-    let vessel = record.vessel;
-    let temperature = record.temperature;
-    let name_length = record.name_length;
-    let name = record.name;
-    if number != 0 {
-        return false;
-    }
-    if vessel != 0 {
-        return false;
-    }
-    if temperature != 0 {
-        return false;
-    }
-    if name_length != 0 {
-        return false;
-    }
-    all_zero(&name)
 }
 
 // Whether two records are of one batch: by their batch numbers alone, whatever their names.

@@ -1,5 +1,6 @@
 -- The laws that the proofs of the calls share.
 pub mod Rows
-pub mod Opening
+pub mod Records
 pub mod FlatLaws
+pub mod Opening
 pub mod Reading

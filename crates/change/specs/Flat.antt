@@ -1,146 +1,133 @@
--- The changes to a ring in memory that the calls are made of, on the arrays. proofs/ shows each to be a change of the ring that the
--- arrays hold. Assumes nothing.
+-- The changes to a ring in memory that the calls are made of, on its numbers and rows. proofs/ shows each to be a change of the ring that
+-- it holds. Assumes nothing.
 use Prim.Native.Nat.{ℕ, _+_, _-_, _*_, min}
 use mathlib.Core.Bool.{cond}
 use mathlib.Core.List.{List, [], _∷_, _++_}
 use lib.Dec.{ltb, eqb}
-use lib.IntN.{pos}
 use lib.ListN.{getD, set, take, drop}
-use Rattle.network.specs.declared.Ring.{Ring}
-use Rattle.network.specs.declared.Node.{Node}
-use Rattle.network.specs.declared.Channel.{Channel}
 use Rattle.batch.specs.declared.BatchRecord.{BatchRecord}
 use Rattle.batch.specs.Blank.{noRecord}
+use Rattle.wire.specs.Bytes.{overwritten}
+use Rattle.wire.specs.Record.{recordLength, recordBytes}
+use Rattle.network.specs.declared.Head.{Head}
+use Rattle.network.specs.declared.Ring.{Ring}
 use Rattle.network.specs.Sound.{lastCount}
-use Rattle.network.specs.Layout.{row, rowLength, blankNode}
+use Rattle.network.specs.Layout.{row, rowLength, withNodes, withChannels, withDeliveries, ringIn}
 
--- the row of node p with a cell after its `held` used ones
+-- rows
+
+-- the row of node p with a cell after its `used` ones
 abbrev pub appended : List ℕ → ℕ → ℕ → ℕ → List ℕ
-appended cells p held cell = set cells (rowLength * p + held) cell
+appended cells p used cell = set cells (rowLength * p + used) cell
 
 -- the row of node p without its first cell: the others move up, and the last is zero
 abbrev pub shifted : List ℕ → ℕ → List ℕ
 shifted cells p =
-    take (rowLength * p) cells ++ (drop 1 (row cells p) ++ (0 ∷ [])) ++ drop (rowLength * p + rowLength) cells
+    take (rowLength * p) cells ++ (drop 1 (row rowLength cells p) ++ (0 ∷ [])) ++ drop (rowLength * p + rowLength) cells
 
-abbrev pub nodeAt : Ring → ℕ → Node
-nodeAt ring p = getD (ring .nodes) p blankNode
+-- the bytes of channel k's record
+abbrev pub recorded : List ℕ → ℕ → BatchRecord → List ℕ
+recorded records k x = overwritten records (recordLength * k) (recordBytes x)
 
--- the same ring with other arrays and another count of deliveries
-abbrev pub ringWith : Ring → List Node → List Channel → List ℕ → List ℕ → ℕ → Ring
-ringWith ring ns cs slots lines d =
-    record {
-      started = ring .started;
-      «node_count» = ring .«node_count»;
-      «channel_count» = ring .«channel_count»;
-      nodes = ns;
-      channels = cs;
-      slots = slots;
-      lines = lines;
-      deliveries = d;
-    }
+-- what the head says of a node and of a channel
 
--- the same ring with another node p and other rows
-abbrev pub withRows : Ring → ℕ → Node → List ℕ → List ℕ → Ring
-withRows ring p d slots lines = ringWith ring (set (ring .nodes) p d) (ring .channels) slots lines (ring .deliveries)
+abbrev pub capacityAt : Head → ℕ → ℕ
+capacityAt h p = getD (h .capacity) p 0
 
--- a node with a message more in its line; with one less in its buffer; with the first of the line in the buffer, the mark cleared; with a
--- passing message in the buffer, the mark set where a line waits
-abbrev pub longer : Node → Node
-longer d = record { slots = d .slots; held = d .held; waiting = d .waiting + 1; mark = d .mark }
+abbrev pub usedAt : Head → ℕ → ℕ
+usedAt h p = getD (h .used) p 0
 
-abbrev pub shorter : Node → Node
-shorter d = record { slots = d .slots; held = d .held - 1; waiting = d .waiting; mark = d .mark }
+abbrev pub waitingAt : Head → ℕ → ℕ
+waitingAt h p = getD (h .waiting) p 0
 
-abbrev pub entering : Node → Node
-entering d = record { slots = d .slots; held = d .held + 1; waiting = d .waiting - 1; mark = 0 }
+abbrev pub markAt : Head → ℕ → ℕ
+markAt h p = getD (h .marks) p 0
 
-abbrev pub passing : Node → Node
-passing d = record { slots = d .slots; held = d .held + 1; waiting = d .waiting; mark = cond (ltb 0 (d .waiting)) 1 (d .mark) }
+abbrev pub senderAt : Head → ℕ → ℕ
+senderAt h k = getD (h .senders) k 0
 
--- a message joins the line; the first leaves the buffer; the first of the line enters the buffer; a message passes into the buffer
+abbrev pub receiverAt : Head → ℕ → ℕ
+receiverAt h k = getD (h .receivers) k 0
+
+abbrev pub phaseAt : Head → ℕ → ℕ
+phaseAt h k = getD (h .phases) k 0
+
+abbrev pub offeredAt : Head → ℕ → ℕ
+offeredAt h k = getD (h .offered) k 0
+
+-- the head after a message joined the line of p; left its buffer; entered from its line, the mark cleared; passed into its buffer, the
+-- mark set where a line waits
+abbrev pub joinedHead : Head → ℕ → Head
+joinedHead h p = withNodes h (h .used) (set (h .waiting) p (waitingAt h p + 1)) (h .marks)
+
+abbrev pub leftHead : Head → ℕ → Head
+leftHead h p = withNodes h (set (h .used) p (usedAt h p - 1)) (h .waiting) (h .marks)
+
+abbrev pub enteredHead : Head → ℕ → Head
+enteredHead h p =
+    withNodes h (set (h .used) p (usedAt h p + 1)) (set (h .waiting) p (waitingAt h p - 1)) (set (h .marks) p 0)
+
+abbrev pub markAfter : ℕ → ℕ → ℕ
+markAfter waiting mark = cond (ltb 0 waiting) 1 mark
+
+abbrev pub passedHead : Head → ℕ → Head
+passedHead h p =
+    withNodes h (set (h .used) p (usedAt h p + 1)) (h .waiting) (set (h .marks) p (markAfter (waitingAt h p) (markAt h p)))
+
+-- the head with another phase of channel k, and with its offer there or not
+abbrev pub phasedHead : Head → ℕ → ℕ → Head
+phasedHead h k phase = withChannels h (set (h .phases) k phase) (h .offered)
+
+abbrev pub offeredHead : Head → ℕ → ℕ → Head
+offeredHead h k flag = withChannels h (h .phases) (set (h .offered) k flag)
+
+-- the ring after the same changes
+
 abbrev pub joined : Ring → ℕ → ℕ → Ring
-joined ring p cell =
-    withRows ring p (longer (nodeAt ring p)) (ring .slots) (appended (ring .lines) p (nodeAt ring p .waiting) cell)
+joined r p cell =
+    ringIn (joinedHead (r .head) p) (r .slots) (appended (r .lines) p (waitingAt (r .head) p) cell) (r .offers) (r .carried)
 
 abbrev pub left : Ring → ℕ → Ring
-left ring p = withRows ring p (shorter (nodeAt ring p)) (shifted (ring .slots) p) (ring .lines)
+left r p = ringIn (leftHead (r .head) p) (shifted (r .slots) p) (r .lines) (r .offers) (r .carried)
 
 abbrev pub entered : Ring → ℕ → Ring
-entered ring p =
-    withRows ring p (entering (nodeAt ring p))
-    (appended (ring .slots) p (nodeAt ring p .held) (getD (ring .lines) (rowLength * p) 0))
-    (shifted (ring .lines) p)
+entered r p =
+    ringIn (enteredHead (r .head) p)
+    (appended (r .slots) p (usedAt (r .head) p) (getD (r .lines) (rowLength * p) 0))
+    (shifted (r .lines) p)
+    (r .offers)
+    (r .carried)
 
 abbrev pub passed : Ring → ℕ → ℕ → Ring
-passed ring p cell =
-    withRows ring p (passing (nodeAt ring p)) (appended (ring .slots) p (nodeAt ring p .held) cell) (ring .lines)
+passed r p cell =
+    ringIn (passedHead (r .head) p) (appended (r .slots) p (usedAt (r .head) p) cell) (r .lines) (r .offers) (r .carried)
 
--- what a read past the last of the 64 channels would give, which no call makes: unlike a blank channel, it has names of no cells
-abbrev pub pastRecord : BatchRecord
-pastRecord = record { batch = record { 0 = 0 }; vessel = 0; temperature = pos 0; «name_length» = 0; name = [] }
-
-abbrev pub pastChannels : Channel
-pastChannels =
-    record { sender = record { 0 = 0 }; receiver = record { 0 = 0 }; phase = 0; offered = 0; offer = pastRecord; carried = pastRecord }
-
-abbrev pub channelAt : Ring → ℕ → Channel
-channelAt ring k = getD (ring .channels) k pastChannels
-
--- the same ring with another channel k
-abbrev pub withChannelAt : Ring → ℕ → Channel → Ring
-withChannelAt ring k ch =
-    ringWith ring (ring .nodes) (set (ring .channels) k ch) (ring .slots) (ring .lines) (ring .deliveries)
-
--- a channel with the same ends
-abbrev pub channelWith : Channel → ℕ → ℕ → BatchRecord → BatchRecord → Channel
-channelWith ch phase flag offer carried =
-    record {
-      sender = ch .sender;
-      receiver = ch .receiver;
-      phase = phase;
-      offered = flag;
-      offer = offer;
-      carried = carried;
-    }
-
--- another phase alone; a record offered; answering with the record carried; at rest with nothing carried
-abbrev pub inPhase : ℕ → Channel → Channel
-inPhase phase ch = channelWith ch phase (ch .offered) (ch .offer) (ch .carried)
-
-abbrev pub offering : BatchRecord → Channel → Channel
-offering x ch = channelWith ch (ch .phase) 1 x (ch .carried)
-
-abbrev pub answering : BatchRecord → Channel → Channel
-answering x ch = channelWith ch 3 0 noRecord x
-
-abbrev pub resting : Channel → Channel
-resting ch = channelWith ch 0 (ch .offered) (ch .offer) noRecord
-
--- the same, of channel k of a ring
+-- another phase alone; the record offered, and no more offered; answering with the record carried; at rest with nothing carried
 abbrev pub phased : Ring → ℕ → ℕ → Ring
-phased ring k phase = withChannelAt ring k (inPhase phase (channelAt ring k))
+phased r k phase = ringIn (phasedHead (r .head) k phase) (r .slots) (r .lines) (r .offers) (r .carried)
 
 abbrev pub offered : Ring → ℕ → BatchRecord → Ring
-offered ring k x = withChannelAt ring k (offering x (channelAt ring k))
+offered r k x = ringIn (offeredHead (r .head) k 1) (r .slots) (r .lines) (recorded (r .offers) k x) (r .carried)
+
+abbrev pub withdrawn : Ring → ℕ → Ring
+withdrawn r k = ringIn (offeredHead (r .head) k 0) (r .slots) (r .lines) (recorded (r .offers) k noRecord) (r .carried)
 
 abbrev pub answered : Ring → ℕ → BatchRecord → Ring
-answered ring k x = withChannelAt ring k (answering x (channelAt ring k))
+answered r k x = ringIn (phasedHead (r .head) k 3) (r .slots) (r .lines) (r .offers) (recorded (r .carried) k x)
 
 abbrev pub rested : Ring → ℕ → Ring
-rested ring k = withChannelAt ring k (resting (channelAt ring k))
-
-abbrev pub withCount : Ring → ℕ → Ring
-withCount ring d = ringWith ring (ring .nodes) (ring .channels) (ring .slots) (ring .lines) d
-
--- at rest, and one delivery more is counted
-abbrev pub handedOut : Ring → ℕ → Ring
-handedOut ring k = withCount (rested ring k) (min (ring .deliveries + 1) lastCount)
+rested r k = ringIn (phasedHead (r .head) k 0) (r .slots) (r .lines) (r .offers) (recorded (r .carried) k noRecord)
 
 -- answering, with the response in the sender node's line
 abbrev pub responded : Ring → ℕ → BatchRecord → Ring
-responded ring k x = joined (answered ring k x) (channelAt ring k .sender .0) (k + 1)
+responded r k x = joined (answered r k x) (senderAt (r .head) k) (k + 1)
+
+-- at rest, and one delivery more is counted
+abbrev pub handedOut : Ring → ℕ → Ring
+handedOut r k =
+    ringIn (withDeliveries (rested r k .head) (min (r .head .deliveries + 1) lastCount)) (r .slots) (r .lines) (r .offers)
+    (rested r k .carried)
 
 -- the node that takes the message of a channel that is asking or answering
-abbrev pub targetAt : Channel → ℕ
-targetAt ch = cond (eqb (ch .phase) 1) (ch .sender .0) (ch .receiver .0)
+abbrev pub targetAt : Head → ℕ → ℕ
+targetAt h k = cond (eqb (phaseAt h k) 1) (senderAt h k) (receiverAt h k)

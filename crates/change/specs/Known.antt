@@ -1,44 +1,55 @@
--- What is known where one of the private functions of `steps` is called: the tests that were made before the call. Assumes nothing.
+-- What is known where a part of a call is made: the tests that were made before it. Assumes nothing.
 use Prim.Native.Nat.{ℕ, _-_, _*_, _<_}
 use mathlib.Core.Path.{_≡_}
 use mathlib.Core.Logic.{_≢_}
 use mathlib.Core.Bool.{true}
-use lib.ListN.{getD}
+use lib.ListN.{length, getD}
 use Rattle.hops.specs.Hops.{next}
+use Rattle.wire.specs.Record.{recordLength}
+use Rattle.network.specs.declared.Head.{Head}
 use Rattle.network.specs.declared.Ring.{Ring}
-use Rattle.network.specs.Layout.{rowLength, soundRing}
-use Rattle.change.specs.Flat.{nodeAt, channelAt, targetAt}
+use Rattle.network.specs.Layout.{nodeRoom, channelRoom, rowLength, soundRing}
+use Rattle.change.specs.Flat.{usedAt, waitingAt, senderAt, phaseAt, targetAt}
 
--- the channel is there and its sender node's line has room, as it has on every sound ring where the channel is not on the ring
-pub record CanRespond (ring : Ring) (k : ℕ) : Type 0 where
-  pub known : k < 64
-  pub sender-known : channelAt ring k .sender .0 < 16
-  pub room : nodeAt ring (channelAt ring k .sender .0) .waiting < 64
+-- the line of node p has room for one more
+pub record CanJoin (h : Head) (p : ℕ) : Type 0 where
+  pub there : p < nodeRoom
+  pub room : waitingAt h p < rowLength
 
--- a sound started ring and one of its nodes
+-- channel k is there, and its sender node's line has room for one more, as it has on every sound ring where the channel is not on the ring
+pub record CanRespond (h : Head) (k : ℕ) : Type 0 where
+  pub known : k < channelRoom
+  pub line : CanJoin h (senderAt h k)
+
+-- a sound started ring, and one of its nodes or channels
 pub record AtNode (ring : Ring) (p : ℕ) : Type 0 where
   pub ok : soundRing ring ≡ true
-  pub going : ring .started ≢ 0
-  pub there : p < ring .«node_count»
+  pub going : ring .head .started ≢ 0
+  pub there : p < ring .head .«node_count»
+
+pub record AtChannel (ring : Ring) (k : ℕ) : Type 0 where
+  pub ok : soundRing ring ≡ true
+  pub going : ring .head .started ≢ 0
+  pub there : k < ring .head .«channel_count»
 
 -- the tests of a move have passed: cell is the first of the buffer of node p, and channel cell - 1 is its channel
 pub record Leaves (ring : Ring) (p cell : ℕ) : Type 0 where
   pub at-node : AtNode ring p
-  pub some : nodeAt ring p .held ≢ 0
+  pub some : usedAt (ring .head) p ≢ 0
   pub first : cell ≡ getD (ring .slots) (rowLength * p) 0
 
 -- what becomes of it at the next node: a request taken, a response delivered, or anything else
 pub record Takes (ring : Ring) (p cell : ℕ) : Type 0 where
   pub leaves : Leaves ring p cell
-  pub asks : channelAt ring (cell - 1) .phase ≡ 1
-  pub arrives : targetAt (channelAt ring (cell - 1)) ≡ next (ring .«node_count») p
+  pub asks : phaseAt (ring .head) (cell - 1) ≡ 1
+  pub arrives : targetAt (ring .head) (cell - 1) ≡ next (ring .head .«node_count») p
 
 pub record Delivers (ring : Ring) (p cell : ℕ) : Type 0 where
   pub leaves : Leaves ring p cell
-  pub answers : channelAt ring (cell - 1) .phase ≢ 1
-  pub arrives : targetAt (channelAt ring (cell - 1)) ≡ next (ring .«node_count») p
+  pub answers : phaseAt (ring .head) (cell - 1) ≢ 1
+  pub arrives : targetAt (ring .head) (cell - 1) ≡ next (ring .head .«node_count») p
 
 pub record Passes (ring : Ring) (p q cell : ℕ) : Type 0 where
   pub leaves : Leaves ring p cell
-  pub next-is : q ≡ next (ring .«node_count») p
-  pub elsewhere : targetAt (channelAt ring (cell - 1)) ≢ q
+  pub next-is : q ≡ next (ring .head .«node_count») p
+  pub elsewhere : targetAt (ring .head) (cell - 1) ≢ q

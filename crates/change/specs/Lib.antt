@@ -1,3 +1,4 @@
--- The changes of a ring in memory, and what is known where they are made.
+-- The changes of a ring in memory, what is known where they are made, and the answers that most calls give.
 pub mod Flat
 pub mod Known
+pub mod Answered

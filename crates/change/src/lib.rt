@@ -1,164 +1,113 @@
 // The changes that the ring calls are made of, and their answers: for the crates of the calls alone. Buffers and lines are rows of cells:
-// a cell is put after the used ones, or the first is taken and the others move up. Nodes and channels are small and are made anew. The
-// ring itself is passed to none of these changes: it is large, and each call changes its own copy where it lies. What a change asks,
-// every call has tested before it.
+// a cell is put after the used ones, or the first is taken and the others move up. Cells and records are changed where they lie; the
+// head goes by value. What a change asks, every call has tested before it.
 pub mod answer;
 
 use batch::BatchRecord;
-use network::Channel;
-use network::Node;
+use network::Cells;
+use network::Head;
+use network::Records;
+use network::Ring;
 ghost use mathlib.Core.Path.{_≡_};
-ghost use Prim.Native.Nat.{_<_};
+ghost use Prim.Native.Nat.{_<_, _+_};
 ghost use lib.ListN.{length};
-ghost use Rattle.change.specs.Flat.{appended, shifted, longer, shorter, entering, passing, inPhase, offering, answering, resting};
+ghost use Rattle.batch.specs.Blank.{noRecord};
+ghost use Rattle.network.specs.Layout.{nodeRoom, channelRoom, rowLength, cellRoom, recordAt};
+ghost use Rattle.change.specs.Flat.{appended, shifted, recorded, joinedHead, leftHead, phasedHead, waitingAt, senderAt, usedAt};
+ghost use Rattle.change.specs.Known.{CanJoin, CanRespond};
 
 // A cell is put after the used ones of the row of node `at`.
-pub fn put(cells: &mut [u8; 1024], at: usize, used: u8, cell: u8)
-    requires { ⌜ (at < 16) × (used < 64) ⌝ }
+pub fn put(cells: &mut Cells, at: usize, used: u8, cell: u8)
+    requires { ⌜ (at < nodeRoom) × (used < rowLength) ⌝ }
     ensures { λ r. ⌜ now (cells .exit) ≡ appended (now (cells .entry)) at used cell ⌝ }
 {
-    let end = 64 * at + used as usize;
+    let end = network::ROW * at + used as usize;
     cells[end] = cell;
 }
 
 // The first cell of the row of node `at` goes: the others move up, and the last is zero.
-pub fn shift(cells: &mut [u8; 1024], at: usize)
-    requires { ⌜ at < 16 ⌝ }
-    requires { ⌜ length (now cells) ≡ 1024 ⌝ }
+pub fn shift(cells: &mut Cells, at: usize)
+    requires { ⌜ at < nodeRoom ⌝ }
+    requires { ⌜ length (now cells) ≡ cellRoom ⌝ }
     ensures { λ r. ⌜ now (cells .exit) ≡ shifted (now (cells .entry)) at ⌝ }
 {
-    let base = 64 * at;
+    let base = network::ROW * at;
+    let last = network::ROW - 1;
     let mut j = 0;
-    while j < 63 {
+    while j < last {
         cells[base + j] = cells[base + j + 1];
         j += 1;
     }
-    cells[base + 63] = 0;
+    cells[base + last] = 0;
 }
 
-// A message joined the line.
-pub fn longer(node: Node) -> Node
-    requires { ⌜ node .waiting < 64 ⌝ }
-    ensures { λ r. ⌜ r ≡ longer node ⌝ }
+// The record of channel k.
+pub fn record_of(records: &Records, k: usize) -> BatchRecord
+    requires { ⌜ k < channelRoom ⌝ }
+    ensures { λ r. ⌜ r ≡ recordAt (now (records .entry)) k ⌝ }
 {
-    Node {
-        slots: node.slots,
-        held: node.held,
-        waiting: node.waiting + 1,
-        mark: node.mark,
-    }
+    wire::record_at(records, wire::RECORD_LENGTH * k)
 }
 
-// The first message left the buffer.
-pub fn shorter(node: Node) -> Node
-    requires { ⌜ 0 < node .held ⌝ }
-    ensures { λ r. ⌜ r ≡ shorter node ⌝ }
+// The record of channel k is this one.
+pub fn set_record(records: &mut Records, k: usize, record: BatchRecord)
+    requires { ⌜ k < channelRoom ⌝ }
+    ensures { λ r. ⌜ now (records .exit) ≡ recorded (now (records .entry)) k «record» ⌝ }
 {
-    Node {
-        slots: node.slots,
-        held: node.held - 1,
-        waiting: node.waiting,
-        mark: node.mark,
-    }
+    wire::put_record_at(records, wire::RECORD_LENGTH * k, record);
 }
 
-// The first of the line went into the buffer, and the turn mark is cleared.
-pub fn entering(node: Node) -> Node
-    requires { ⌜ (0 < node .waiting) × (node .held < 64) ⌝ }
-    ensures { λ r. ⌜ r ≡ entering node ⌝ }
+// Channel k has no record.
+pub fn clear_record(records: &mut Records, k: usize)
+    requires { ⌜ k < channelRoom ⌝ }
+    ensures { λ r. ⌜ now (records .exit) ≡ recorded (now (records .entry)) k noRecord ⌝ }
 {
-    Node {
-        slots: node.slots,
-        held: node.held + 1,
-        waiting: node.waiting - 1,
-        mark: 0,
-    }
-}
-
-// A passing message went into the buffer; if a line waits here, the turn mark is set.
-pub fn passing(node: Node) -> Node
-    requires { ⌜ node .held < 64 ⌝ }
-    ensures { λ r. ⌜ r ≡ passing node ⌝ }
-{
-    let waiting = node.waiting;
-    let mut mark = node.mark;
-    if 0 < waiting {
-        mark = 1;
-    }
-    Node {
-        slots: node.slots,
-        held: node.held + 1,
-        waiting,
-        mark,
-    }
-}
-
-// Another phase, and nothing else of the channel changes.
-pub fn in_phase(of: Channel, phase: u8) -> Channel
-    ensures { λ r. ⌜ r ≡ inPhase phase of ⌝ }
-{
-    let sender = of.sender;
-    let receiver = of.receiver;
-    let offer = of.offer;
-    let carried = of.carried;
-    Channel {
-        sender,
-        receiver,
-        phase,
-        offered: of.offered,
-        offer,
-        carried,
-    }
-}
-
-// The record is offered.
-pub fn offering(of: Channel, record: BatchRecord) -> Channel
-    ensures { λ r. ⌜ r ≡ offering «record» of ⌝ }
-{
-    let sender = of.sender;
-    let receiver = of.receiver;
-    let carried = of.carried;
-    Channel {
-        sender,
-        receiver,
-        phase: of.phase,
-        offered: 1,
-        offer: record,
-        carried,
-    }
-}
-
-// Answering with the record carried, and nothing is offered any more.
-pub fn answering(of: Channel, record: BatchRecord) -> Channel
-    ensures { λ r. ⌜ r ≡ answering «record» of ⌝ }
-{
-    let sender = of.sender;
-    let receiver = of.receiver;
     let none = BatchRecord::none();
-    Channel {
-        sender,
-        receiver,
-        phase: Channel::ANSWERING,
-        offered: 0,
-        offer: none,
-        carried: record,
-    }
+    wire::put_record_at(records, wire::RECORD_LENGTH * k, none);
 }
 
-// At rest, and nothing is carried.
-pub fn resting(of: Channel) -> Channel
-    ensures { λ r. ⌜ r ≡ resting of ⌝ }
+// A message joins the line of node `at`.
+pub fn join(mut head: Head, lines: &mut Cells, at: usize, cell: u8) -> Head
+    requires { ⌜ CanJoin head at ⌝ }
+    ensures { λ r. ⌜ r ≡ joinedHead head at ⌝ }
+    ensures { λ r. ⌜ now (lines .exit) ≡ appended (now (lines .entry)) at (waitingAt head at) cell ⌝ }
 {
-    let sender = of.sender;
-    let receiver = of.receiver;
-    let none = BatchRecord::none();
-    let offer = of.offer;
-    Channel {
-        sender,
-        receiver,
-        phase: Channel::RESTING,
-        offered: of.offered,
-        offer,
-        carried: none,
-    }
+    let waiting = head.waiting[at];
+    put(lines, at, waiting, cell);
+    head.waiting[at] = waiting + 1;
+    head
+}
+
+// The first message leaves the buffer of node `at`.
+pub fn leave(mut head: Head, slots: &mut Cells, at: usize) -> Head
+    requires { ⌜ (at < nodeRoom) × (0 < usedAt head at) ⌝ }
+    requires { ⌜ length (now slots) ≡ cellRoom ⌝ }
+    ensures { λ r. ⌜ r ≡ leftHead head at ⌝ }
+    ensures { λ r. ⌜ now (slots .exit) ≡ shifted (now (slots .entry)) at ⌝ }
+{
+    let used = head.used[at];
+    shift(slots, at);
+    head.used[at] = used - 1;
+    head
+}
+
+// Channel `channel` answers with the record: it is carried, and the response joins the sender node's line.
+pub fn respond(
+    mut head: Head,
+    lines: &mut Cells,
+    carried: &mut Records,
+    channel: u8,
+    record: BatchRecord,
+) -> Head
+    requires { ⌜ CanRespond head channel ⌝ }
+    ensures { λ r. ⌜ r ≡ joinedHead (phasedHead head channel 3) (senderAt head channel) ⌝ }
+    ensures { λ r. ⌜ now (lines .exit)
+        ≡ appended (now (lines .entry)) (senderAt head channel) (waitingAt head (senderAt head channel)) (channel + 1) ⌝ }
+    ensures { λ r. ⌜ now (carried .exit) ≡ recorded (now (carried .entry)) channel «record» ⌝ }
+{
+    let k = channel as usize;
+    set_record(carried, k, record);
+    head.phases[k] = Ring::ANSWERING;
+    let sender = head.senders[k] as usize;
+    join(head, lines, sender, channel + 1)
 }

@@ -1,2 +1,2 @@
--- The laws of receive and send.
+-- The laws of the calls of this crate.
 pub mod Offers

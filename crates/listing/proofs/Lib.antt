@@ -1,5 +1,5 @@
 pub mod Digits
-pub mod Held
+pub mod Appends
 pub mod Room
 pub mod Signed
 pub mod Examples

@@ -1,19 +1,26 @@
--- What `put` is where the line fits and where it does not, for a line of n bytes. Assumes nothing.
+-- What `put` is where the line fits and where it does not, and for a line that was built in a text. Assumes nothing.
 use Prim.Native.Nat.{ℕ, _+_, _≤_, _<_}
 use mathlib.Core.Path.{_≡_, refl}
-use mathlib.Core.List.{List, _++_}
-use lib.ListN.{length, take, drop}
+use mathlib.Core.List.{List}
+use lib.ListN.{length, take}
 use borrow.Author.Tests.{le-leb, lt-leb}
+use Rattle.listing.specs.declared.Put.{Put}
 use Rattle.listing.specs.declared.Put.the-variants.{Written, NoRoom}
-use Rattle.listing.specs.Put.{putAnswer, put}
+use Rattle.listing.specs.Appends.{Appends}
+use Rattle.listing.specs.Line.{lineRoom}
+use Rattle.listing.specs.Put.{putAnswer, laid, put}
 
-module _ (buffer : List ℕ) (place : ℕ) (line : List ℕ) (n : ℕ) (size : length line ≡ n) where
-  pub no-room : length buffer < place + n → (NoRoom ≡ putAnswer buffer place line) × (buffer ≡ put buffer place line)
+module _ (buffer : List ℕ) (place : ℕ) (line : List ℕ) where
+  pub no-room : length buffer < place + length line → (NoRoom ≡ putAnswer buffer place line) × (buffer ≡ put buffer place line)
   unfolding putAnswer put
-  no-room h = rw (size, lt-leb _ _ h) (refl, refl)
+  no-room h = rw (lt-leb _ _ h) (refl, refl)
 
-  pub room : place + n ≤ length buffer
-      → (Written (place + n) ≡ putAnswer buffer place line)
-      × (take place buffer ++ line ++ drop (place + n) buffer ≡ put buffer place line)
+  pub room : place + length line ≤ length buffer
+      → (Written (place + length line) ≡ putAnswer buffer place line) × (laid buffer place line ≡ put buffer place line)
   unfolding putAnswer put
-  room h = rw (size, le-leb _ _ h) (refl, refl)
+  room h = rw (le-leb _ _ h) (refl, refl)
+
+pub built : (buffer : List ℕ) (place : ℕ) {s t line after : List ℕ} {end : ℕ} {answer : Put} → Appends s t 0 end line lineRoom
+    → (answer ≡ putAnswer buffer place (take end t)) × (after ≡ put buffer place (take end t))
+    → (answer ≡ putAnswer buffer place line) × ((after ≡ put buffer place line) × (length line ≤ lineRoom))
+built buffer place a p = (rw (← a .reads) (p .0), (rw (← a .reads) (p .1), a .within))

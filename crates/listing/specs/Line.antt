@@ -9,6 +9,10 @@ use Rattle.network.specs.declared.Reply.{Reply}
 use Rattle.network.specs.Answers.{numberIn}
 use Rattle.listing.specs.Digits.{decimal, hex2, signed}
 
+-- room for any line: none is longer
+abbrev pub lineRoom : ℕ
+lineRoom = 160
+
 abbrev pub space : ℕ
 space = 0x20
 

@@ -14,7 +14,10 @@ fits buffer place line = leb (place + length line) (length buffer)
 unfoldable pub putAnswer : List ℕ → ℕ → List ℕ → Put
 putAnswer buffer place line = cond (fits buffer place line) (Written (place + length line)) NoRoom
 
--- the buffer afterwards: the line at its place and all else as it was, or the buffer as it was
+-- the buffer with the line at its place, and all else as it was
+abbrev pub laid : List ℕ → ℕ → List ℕ → List ℕ
+laid buffer place line = take place buffer ++ line ++ drop (place + length line) buffer
+
+-- the buffer afterwards: with the line, or as it was
 unfoldable pub put : List ℕ → ℕ → List ℕ → List ℕ
-put buffer place line =
-    cond (fits buffer place line) (take place buffer ++ line ++ drop (place + length line) buffer) buffer
+put buffer place line = cond (fits buffer place line) (laid buffer place line) buffer

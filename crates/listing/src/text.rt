@@ -1,5 +1,5 @@
-// A line while it is built: bytes appended one after another to a text held by value. Every line of the report is
-// shorter than the text's cells, so each function asks for the room it needs and none has to refuse.
+// A line while it is built: bytes put one after another into a lent text. Every function takes the place where it begins and
+// returns the place where it ends; it asks for the room that it needs, so none has to refuse.
 ghost use mathlib.Core.List.{[], _∷_};
 ghost use mathlib.Core.Path.{_≡_};
 ghost use Prim.Native.Nat.{_+_, _<_, _≤_, min};
@@ -7,79 +7,54 @@ ghost use lib.IntN.{natAbs};
 ghost use lib.ListN.{length, take};
 ghost use Rattle.listing.specs.Digits.{decimal, hexDigit, hex2, signed};
 ghost use Rattle.listing.specs.Line.{space, field, nameField};
-ghost use Rattle.listing.specs.Held.{Appends};
+ghost use Rattle.listing.specs.Appends.{Appends};
+ghost use Rattle.listing.specs.Put.{laid};
 
 const SPACE: u8 = 0x20;
 
 const MINUS: u8 = 0x2D;
 
-// A text of at most 128 bytes.
-pub struct Text {
-    pub bytes: [u8; 128],
-    // How many of the bytes are the text.
-    pub len: usize,
+pub fn push(text: &mut [u8], at: usize, byte: u8) -> usize
+    requires { ⌜ at + 1 ≤ length (now text) ⌝ }
+    ensures { λ r. ⌜ Appends (now (text .entry)) (now (text .exit)) at r (byte ∷ []) 1 ⌝ }
+{
+    text[at] = byte;
+    at + 1
 }
 
-// No bytes yet; the cells hold nothing that counts.
-pub fn empty() -> Text
-    ensures { λ r. ⌜ r .len ≡ 0 ⌝ }
+// Several bytes. What stands after them is left as it was, so a whole line is put into the report by this too.
+pub fn push_all(text: &mut [u8], at: usize, bytes: &[u8]) -> usize
+    requires { ⌜ at + length (now bytes) ≤ length (now text) ⌝ }
+    ensures { λ r. ⌜ Appends (now (text .entry)) (now (text .exit)) at r (now (bytes .entry)) (length (now (bytes .entry))) ⌝ }
+    ensures { λ r. ⌜ now (text .exit) ≡ laid (now (text .entry)) at (now (bytes .entry)) ⌝ }
 {
-    Text {
-        bytes: [0; 128],
-        len: 0,
-    }
-}
-
-pub fn push(t: Text, byte: u8) -> Text
-    requires { ⌜ t .len + 1 ≤ 128 ⌝ }
-    ensures { λ r. ⌜ Appends t r (byte ∷ []) 1 ⌝ }
-{
-    let at = t.len;
-    let mut longer = t;
-    longer.bytes[at] = byte;
-    longer.len = at + 1;
-    longer
-}
-
-pub fn push_all(t: Text, bytes: &[u8]) -> Text
-    requires { ⌜ t .len + length (now bytes) ≤ 128 ⌝ }
-    ensures { λ r. ⌜ Appends t r (now (bytes .entry)) (length (now (bytes .entry))) ⌝ }
-{
-    let mut longer = t;
     let mut i = 0;
     while i < bytes.len() {
-        longer = push(longer, bytes[i]);
+        text[at + i] = bytes[i];
         i += 1;
     }
-    longer
+    at + i
 }
 
-// The digits of a number: those above the last one, then the last.
-fn push_digits(t: Text, n: u32) -> Text
-    requires { ⌜ t .len + length (decimal n) ≤ 128 ⌝ }
-    ensures { λ r. ⌜ Appends t r (decimal n) (length (decimal n)) ⌝ }
+// A number in decimal: the digits above the last one, then the last. One of 32 bits has at most ten digits.
+pub fn push_decimal(text: &mut [u8], at: usize, n: u32) -> usize
+    requires { ⌜ at + 10 ≤ length (now text) ⌝ }
+    ensures { λ r. ⌜ Appends (now (text .entry)) (now (text .exit)) at r (decimal n) 10 ⌝ }
 {
     if n < 10 {
-        return push(t, b'0' + n as u8);
+        return push(text, at, b'0' + n as u8);
     }
-    let above = push_digits(t, n / 10);
-    push(above, b'0' + (n % 10) as u8)
-}
-
-// A number in decimal. One of 32 bits has at most ten digits.
-pub fn push_decimal(t: Text, n: u32) -> Text
-    requires { ⌜ t .len + 10 ≤ 128 ⌝ }
-    ensures { λ r. ⌜ Appends t r (decimal n) 10 ⌝ }
-{
-    push_digits(t, n)
+    let last = push_decimal(text, at, n / 10);
+    push(text, last, b'0' + (n % 10) as u8)
 }
 
 // A number in decimal, after a space.
-pub fn push_field(t: Text, n: u32) -> Text
-    requires { ⌜ t .len + 11 ≤ 128 ⌝ }
-    ensures { λ r. ⌜ Appends t r (field n) 11 ⌝ }
+pub fn push_field(text: &mut [u8], at: usize, n: u32) -> usize
+    requires { ⌜ at + 11 ≤ length (now text) ⌝ }
+    ensures { λ r. ⌜ Appends (now (text .entry)) (now (text .exit)) at r (field n) 11 ⌝ }
 {
-    push_decimal(push(t, SPACE), n)
+    let first = push(text, at, SPACE);
+    push_decimal(text, first, n)
 }
 
 // A digit below 16, in small letters.
@@ -91,13 +66,13 @@ fn hex_digit(d: u8) -> u8
 }
 
 // A byte in two hexadecimal digits, after a space.
-pub fn push_hex(t: Text, byte: u8) -> Text
-    requires { ⌜ t .len + 3 ≤ 128 ⌝ }
-    ensures { λ r. ⌜ Appends t r (space ∷ hex2 byte) 3 ⌝ }
+pub fn push_hex(text: &mut [u8], at: usize, byte: u8) -> usize
+    requires { ⌜ at + 3 ≤ length (now text) ⌝ }
+    ensures { λ r. ⌜ Appends (now (text .entry)) (now (text .exit)) at r (space ∷ hex2 byte) 3 ⌝ }
 {
-    let spaced = push(t, SPACE);
-    let high = push(spaced, hex_digit(byte / 16));
-    push(high, hex_digit(byte % 16))
+    let high = push(text, at, SPACE);
+    let low = push(text, high, hex_digit(byte / 16));
+    push(text, low, hex_digit(byte % 16))
 }
 
 // How far a number is from 0. The way by -1 - z stays in range for the lowest number too, whose negative is no i16.
@@ -108,16 +83,17 @@ fn distance(z: i16) -> u32
 }
 
 // A signed number in decimal, after a space: a minus before a number below 0.
-pub fn push_signed(t: Text, z: i16) -> Text
-    requires { ⌜ t .len + 12 ≤ 128 ⌝ }
-    ensures { λ r. ⌜ Appends t r (space ∷ signed z) 12 ⌝ }
+pub fn push_signed(text: &mut [u8], at: usize, z: i16) -> usize
+    requires { ⌜ at + 12 ≤ length (now text) ⌝ }
+    ensures { λ r. ⌜ Appends (now (text .entry)) (now (text .exit)) at r (space ∷ signed z) 12 ⌝ }
 {
     let digits = distance(z);
-    let spaced = push(t, SPACE);
+    let spaced = push(text, at, SPACE);
     if z < 0 {
-        push_decimal(push(spaced, MINUS), digits)
+        let first = push(text, spaced, MINUS);
+        push_decimal(text, first, digits)
     } else {
-        push_decimal(spaced, digits)
+        push_decimal(text, spaced, digits)
     }
 }
 
@@ -132,13 +108,14 @@ fn name_end(length: u8) -> usize
 }
 
 // A name after a space, or nothing where it is empty.
-pub fn push_name(t: Text, length: u8, cells: [u8; 32]) -> Text
-    requires { ⌜ t .len + 33 ≤ 128 ⌝ }
-    ensures { λ r. ⌜ Appends t r (nameField (take length cells)) 33 ⌝ }
+pub fn push_name(text: &mut [u8], at: usize, size: u8, cells: [u8; 32]) -> usize
+    requires { ⌜ at + 33 ≤ length (now text) ⌝ }
+    ensures { λ r. ⌜ Appends (now (text .entry)) (now (text .exit)) at r (nameField (take size cells)) 33 ⌝ }
 {
-    if length == 0 {
-        return t;
+    if size == 0 {
+        return at;
     }
-    let end = name_end(length);
-    push_all(push(t, SPACE), &cells[..end])
+    let end = name_end(size);
+    let first = push(text, at, SPACE);
+    push_all(text, first, &cells[..end])
 }

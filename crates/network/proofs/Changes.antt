@@ -1,191 +1,243 @@
--- What each change of a ring is in the arrays that hold it, for functions that rewrite one node, one row or one channel: the others
--- stay as they are. Assumes nothing.
+-- Each change of a ring that the calls are made of, as it shows in memory: a number of the head is stored to, or a row is rewritten, where
+-- the change shows, and what it leaves is left in memory too. Assumes nothing.
 use Prim.Native.Nat.{ℕ, _+_, _≤_, _<_}
-use mathlib.Core.Path.{_≡_, refl, ap, _∙_}
+use mathlib.Core.Path.{_≡_, refl, sym, ap, _∙_}
 use mathlib.Core.Bool.{Bool, false}
 use mathlib.Core.List.{List, [], _∷_, _++_}
 use mathlib.Core.Option.{Option, none}
 use native.Mathlib.Omega.{arith}
-use lib.ListN.{length, getD, set, length-set, length-append}
-use lib.Seq.{getD-set-same, getD-set-other}
+use lib.ListN.{length, getD, set, length-append, length-set, List·getD-append, List·getD-eq-default}
+use lib.Seq.{getD-set-same, getD-set-other, getD-append-seam}
 use Rattle.batch.specs.declared.BatchRecord.{BatchRecord}
+use Rattle.wire.specs.Record.{recordLength}
 use Rattle.network.specs.declared.Ring.{Ring}
-use Rattle.network.specs.declared.Node.{Node}
-use Rattle.network.specs.declared.Channel.{Channel}
-use Rattle.network.specs.Counting.{one}
-use Rattle.network.specs.Network.{Network, NodeState, ChannelState, Phase, resting, nodeCount, channelCount, noNode, node, channel, withNode, withChannel, withNewNode, withNewChannel, withStarted, withDeliveries}
-use Rattle.network.specs.Layout.{ringLimits, rowLength, blankNode, blankChannel, holdNode, holdChannel, rows, hold}
-use Rattle.network.proofs.Cases.{by-same}
-use Rattle.network.proofs.Rows.{padded-map-set, padded-map-snoc, getD-snoc-same, rows-same, putRow, rows-put, rows-put-same}
-use Rattle.network.proofs.Memory.{Fits}
+use Rattle.network.specs.declared.Head.{Head}
+use Rattle.network.specs.Counting.{one, tabulate}
+use Rattle.network.specs.Network.{Network, NodeState, ChannelState, Phase, resting, nodeCount, channelCount, noNode, noChannel, node, channel, withNode, withChannel, withNewNode, withNewChannel, withStarted}
+use Rattle.network.specs.Layout.{nodeRoom, channelRoom, rowLength, rows, cellsOf, phaseCode, offeredFlag, offerBytes, carriedBytes, holdHead, hold, withNodes, withChannels, ringIn}
+use Rattle.network.specs.Network
+use Rattle.network.specs.Layout
+use Rattle.network.proofs.Cases.{by-same, by-less}
+use Rattle.network.proofs.Rows.{tabulate-same, tabulate-put, rows-same, rows-put, putRow, getD-snoc-same}
+use Rattle.network.proofs.Memory.{Fits, OfferFits, CarriedFits}
 
--- a ring in memory by its fields, in their order
-abbrev pub ringOfArrays : ℕ → ℕ → ℕ → List Node → List Channel → List ℕ → List ℕ → ℕ → Ring
-ringOfArrays a n c ns cs slots lines d =
-    record { started = a; «node_count» = n; «channel_count» = c; nodes = ns; channels = cs; slots = slots; lines = lines; deliveries = d }
+-- what nodes or channels show in memory, of which there is room for n: numbers, and rows of w cells. One of them is another; one more
+-- comes after them, where the numbers and rows beyond the last are those of nothing
 
--- node p is d, with the queues xs and ys in its rows
-abbrev pub putNode : ℕ → Node → List ℕ → List ℕ → Ring → Ring
-putNode p d xs ys ring =
-    ringOfArrays (ring .started) (ring .«node_count») (ring .«channel_count») (set (ring .nodes) p d) (ring .channels)
-    (putRow (ring .slots) p xs)
-    (putRow (ring .lines) p ys)
-    (ring .deliveries)
+module _ {ℓ} {A : Type ℓ} (nothing : A) (n : ℕ) (xs : List A) where
+  abbrev pub numbers : (A → ℕ) → List A → List ℕ
+  numbers f ys = tabulate n (λ i. f (getD ys i nothing))
 
-abbrev pub putChannel : ℕ → Channel → Ring → Ring
-putChannel k ch ring =
-    ringOfArrays (ring .started) (ring .«node_count») (ring .«channel_count») (ring .nodes) (set (ring .channels) k ch) (ring .slots)
-    (ring .lines)
-    (ring .deliveries)
+  abbrev pub cells : ℕ → (A → List ℕ) → List A → List ℕ
+  cells w f ys = rows w n (λ i. f (getD ys i nothing))
 
--- a node or a channel comes after the others; the rows of a new node are zero already
-abbrev pub putNewNode : Node → Ring → Ring
-putNewNode d ring =
-    ringOfArrays (ring .started) (ring .«node_count» + 1) (ring .«channel_count») (set (ring .nodes) (ring .«node_count») d)
-    (ring .channels)
-    (ring .slots)
-    (ring .lines)
-    (ring .deliveries)
+  module _ (p : ℕ) (s : A) (l : p < length xs) where
+    pub numbers-set : (f : A → ℕ) → length xs ≤ n → numbers f (set xs p s) ≡ set (numbers f xs) p (f s)
+    numbers-set f fit =
+        tabulate-put n (λ i. f (getD xs i nothing)) (λ i. f (getD (set xs p s) i nothing)) p (omega arith)
+        (λ i m d. ap f (getD-set-other xs p i s nothing d))
+        ∙ ap (λ t. set (numbers f xs) p (f t)) (getD-set-same xs p s nothing l)
 
-abbrev pub putNewChannel : Channel → Ring → Ring
-putNewChannel ch ring =
-    ringOfArrays (ring .started) (ring .«node_count») (ring .«channel_count» + 1) (ring .nodes)
-    (set (ring .channels) (ring .«channel_count») ch)
-    (ring .slots)
-    (ring .lines)
-    (ring .deliveries)
+    pub cells-set : (w : ℕ) (f : A → List ℕ) → length xs ≤ n → cells w f (set xs p s) ≡ putRow w (cells w f xs) p (f s)
+    cells-set w f fit =
+        rows-put w n (λ i. f (getD xs i nothing)) (λ i. f (getD (set xs p s) i nothing)) p (omega arith)
+        (λ i m d. ap f (getD-set-other xs p i s nothing d))
+        ∙ ap (λ t. putRow w (cells w f xs) p (f t)) (getD-set-same xs p s nothing l)
 
-abbrev pub putStarted : ℕ → Ring → Ring
-putStarted a ring =
-    ringOfArrays a (ring .«node_count») (ring .«channel_count») (ring .nodes) (ring .channels) (ring .slots) (ring .lines)
-    (ring .deliveries)
+    -- one that shows the same leaves what is shown
+    shows {κ} : {B : Type κ} (f : A → B) → f s ≡ f (getD xs p nothing) → (i : ℕ) →
+        f (getD (set xs p s) i nothing) ≡ f (getD xs i nothing)
+    shows f e i =
+        by-same i p
+        (λ here. rw here (ap f (getD-set-same xs p s nothing l) ∙ e))
+        (λ other. ap f (getD-set-other xs p i s nothing other))
 
-abbrev pub putDeliveries : ℕ → Ring → Ring
-putDeliveries d ring =
-    ringOfArrays (ring .started) (ring .«node_count») (ring .«channel_count») (ring .nodes) (ring .channels) (ring .slots)
-    (ring .lines)
-    d
+    pub numbers-left : (f : A → ℕ) → f s ≡ f (getD xs p nothing) → numbers f (set xs p s) ≡ numbers f xs
+    numbers-left f e = tabulate-same n _ _ (λ i m. shows f e i)
 
--- one queue of every node, as rows
+    pub cells-left : (w : ℕ) (f : A → List ℕ) → f s ≡ f (getD xs p nothing) → cells w f (set xs p s) ≡ cells w f xs
+    cells-left w f e = rows-same w n _ _ (λ i m. shows f e i)
 
-abbrev queues : (NodeState → List ℕ) → List NodeState → List ℕ
-queues field ns = rows (ringLimits .nodes) (λ q. field (getD ns q noNode))
+    -- what holds of each still does, where it holds of the new one
+    pub each-set {κ} : (P : A → Type κ) → ((i : ℕ) → i < length xs → P (getD xs i nothing)) → P s →
+        (i : ℕ) → i < length (set xs p s) → P (getD (set xs p s) i nothing)
+    each-set P each new i m =
+        by-same i p
+        (λ here. rw (here, getD-set-same xs p s nothing l) new)
+        (λ other. rw (getD-set-other xs p i s nothing other) (each i (rw length-set at m)))
 
-module _ (field : NodeState → List ℕ) (ns : List NodeState) where
-  queues-set : (p : ℕ) (s : NodeState) → p < length ns → length ns ≤ ringLimits .nodes →
-      queues field (set ns p s) ≡ putRow (queues field ns) p (field s)
-  queues-set p s l fits =
-      let put : queues field (set ns p s) ≡ putRow (queues field ns) p (field (getD (set ns p s) p noNode)) =
-      rows-put (ringLimits .nodes) (λ q. field (getD ns q noNode)) (λ q. field (getD (set ns p s) q noNode)) p (omega arith)
-      (λ q m d. ap field (getD-set-other ns p q s noNode d)) in
-      put ∙ ap (λ t. putRow (queues field ns) p (field t)) (getD-set-same ns p s noNode l)
+  module _ (s : A) where
+    pub numbers-snoc : (f : A → ℕ) → length xs < n → numbers f (xs ++ (s ∷ [])) ≡ set (numbers f xs) (length xs) (f s)
+    numbers-snoc f fit =
+        tabulate-put n (λ i. f (getD xs i nothing)) (λ i. f (getD (xs ++ (s ∷ [])) i nothing)) (length xs) fit
+        (λ i m d.
+        by-less i (length xs)
+        (λ in-list. ap f (List·getD-append xs (s ∷ []) nothing i in-list))
+        (λ beyond.
+        ap f
+        (List·getD-eq-default (xs ++ (s ∷ [])) nothing (omega (arith, length-append xs (s ∷ [])))
+        ∙ sym (List·getD-eq-default xs nothing beyond))))
+        ∙ ap (λ t. set (numbers f xs) (length xs) (f t)) (getD-append-seam xs s [] nothing)
 
-  -- every queue fits a row still, where the new one does
-  queues-fit : (p : ℕ) (s : NodeState) → ((q : ℕ) → q < length ns → length (field (getD ns q noNode)) ≤ rowLength) →
-      length (field s) ≤ rowLength →
-      (q : ℕ) → q < length (set ns p s) → length (field (getD (set ns p s) q noNode)) ≤ rowLength
-  queues-fit p s each new q l =
-      let inside : q < length ns = rw length-set at l in
-      by-same q p (λ e. rw (e, getD-set-same ns p s noNode (omega arith)) new)
-      (λ d. rw (getD-set-other ns p q s noNode d) (each q inside))
+    pub numbers-snoc-left : (f : A → ℕ) → f s ≡ f nothing → numbers f (xs ++ (s ∷ [])) ≡ numbers f xs
+    numbers-snoc-left f e = tabulate-same n _ _ (λ i m. getD-snoc-same f xs s nothing i e)
 
-  queues-snoc : (s : NodeState) → field s ≡ field noNode → queues field (ns ++ (s ∷ [])) ≡ queues field ns
-  queues-snoc s e =
-      rows-same (ringLimits .nodes) (λ q. field (getD (ns ++ (s ∷ [])) q noNode)) (λ q. field (getD ns q noNode))
-      (λ q m. getD-snoc-same field ns s noNode q e)
+    pub cells-snoc-left : (w : ℕ) (f : A → List ℕ) → f s ≡ f nothing → cells w f (xs ++ (s ∷ [])) ≡ cells w f xs
+    cells-snoc-left w f e = rows-same w n _ _ (λ i m. getD-snoc-same f xs s nothing i e)
+
+-- the head of a ring that shows so
+
+abbrev pub headOf : ℕ → ℕ → ℕ → ℕ → ℕ → List ℕ → List ℕ → List ℕ → List ℕ → List ℕ → List ℕ → List ℕ → List ℕ → Head
+headOf d a n c z cap used waiting marks senders receivers phases offered =
+    record {
+      deliveries = d;
+      started = a;
+      «node_count» = n;
+      «channel_count» = c;
+      spare = z;
+      capacity = cap;
+      used = used;
+      waiting = waiting;
+      marks = marks;
+      senders = senders;
+      receivers = receivers;
+      phases = phases;
+      offered = offered;
+    }
 
 module _ (σ : Network) (fits : Fits σ) where
-  pub hold-with-node : (p : ℕ) (xs ys : List ℕ) (m : Bool) → p < nodeCount σ →
-      hold (withNode p xs ys m σ)
-      ≡ putNode p (record { slots = node σ p .slots; held = length xs; waiting = length ys; mark = one m }) xs ys (hold σ)
-  unfolding hold
-  hold-with-node p xs ys m l =
-      let s : NodeState = record { slots = node σ p .slots; buffer = xs; line = ys; mark = m } in
+  -- one node is another with the same slots
+
+  module _ (p : ℕ) (xs ys : List ℕ) (m : Bool) (l : p < nodeCount σ) where
+    abbrev another : NodeState
+    another = record { slots = node σ p .slots; buffer = xs; line = ys; mark = m }
+
+    pub hold-with-node : {u w t slots lines : List ℕ} →
+        numbers noNode nodeRoom (σ .nodes) (λ s. length (s .buffer)) (set (σ .nodes) p another) ≡ u →
+        numbers noNode nodeRoom (σ .nodes) (λ s. length (s .line)) (set (σ .nodes) p another) ≡ w →
+        numbers noNode nodeRoom (σ .nodes) (λ s. one (s .mark)) (set (σ .nodes) p another) ≡ t →
+        cells noNode nodeRoom (σ .nodes) rowLength (λ s. cellsOf (s .buffer)) (set (σ .nodes) p another) ≡ slots →
+        cells noNode nodeRoom (σ .nodes) rowLength (λ s. cellsOf (s .line)) (set (σ .nodes) p another) ≡ lines →
+        hold (withNode p xs ys m σ) ≡ ringIn (withNodes (hold σ .head) u w t) slots lines (hold σ .offers) (hold σ .carried)
+    unfolding hold holdHead
+    hold-with-node eu ew et es el =
+        λ i.
+        ringIn
+        (headOf (σ .deliveries) (one (σ .started)) (length-set (σ .nodes) p another i) (channelCount σ) 0
+        (numbers-left noNode nodeRoom (σ .nodes) p another l (λ s. s .slots) refl i)
+        (eu i) (ew i) (et i)
+        (hold σ .head .senders) (hold σ .head .receivers) (hold σ .head .phases) (hold σ .head .offered))
+        (es i) (el i) (hold σ .offers) (hold σ .carried)
+
+    pub fits-with-node : length xs ≤ rowLength → length ys ≤ rowLength → Fits (withNode p xs ys m σ)
+    fits-with-node lx ly =
+        record {
+          nodes-fit = rw (length-set (σ .nodes) p another) (fits .nodes-fit);
+          channels-fit = fits .channels-fit;
+          buffer-fits = each-set noNode nodeRoom (σ .nodes) p another l (λ s. length (s .buffer) ≤ rowLength) (fits .buffer-fits) lx;
+          line-fits = each-set noNode nodeRoom (σ .nodes) p another l (λ s. length (s .line) ≤ rowLength) (fits .line-fits) ly;
+          offer-fits = fits .offer-fits;
+          carried-fits = fits .carried-fits;
+        }
+
+  -- one channel is another with the same ends
+
+  module _ (k : ℕ) (f : Phase) (o : Option BatchRecord) (l : k < channelCount σ) where
+    abbrev other : ChannelState
+    other = record { sender = channel σ k .sender; receiver = channel σ k .receiver; phase = f; offer = o }
+
+    pub hold-with-channel : {phases offered offers carried : List ℕ} →
+        numbers noChannel channelRoom (σ .channels) (λ s. phaseCode (s .phase)) (set (σ .channels) k other) ≡ phases →
+        numbers noChannel channelRoom (σ .channels) (λ s. offeredFlag (s .offer)) (set (σ .channels) k other) ≡ offered →
+        cells noChannel channelRoom (σ .channels) recordLength (λ s. offerBytes (s .offer)) (set (σ .channels) k other) ≡ offers →
+        cells noChannel channelRoom (σ .channels) recordLength (λ s. carriedBytes (s .phase)) (set (σ .channels) k other) ≡ carried →
+        hold (withChannel k f o σ) ≡ ringIn (withChannels (hold σ .head) phases offered) (hold σ .slots) (hold σ .lines) offers carried
+    unfolding hold holdHead
+    hold-with-channel ep eo ef ec =
+        λ i.
+        ringIn
+        (headOf (σ .deliveries) (one (σ .started)) (nodeCount σ) (length-set (σ .channels) k other i) 0
+        (hold σ .head .capacity) (hold σ .head .used) (hold σ .head .waiting) (hold σ .head .marks)
+        (numbers-left noChannel channelRoom (σ .channels) k other l (λ s. s .sender) refl i)
+        (numbers-left noChannel channelRoom (σ .channels) k other l (λ s. s .receiver) refl i)
+        (ep i) (eo i))
+        (hold σ .slots) (hold σ .lines) (ef i) (ec i)
+
+    pub fits-with-channel : OfferFits o → CarriedFits f → Fits (withChannel k f o σ)
+    fits-with-channel fo ff =
+        record {
+          nodes-fit = fits .nodes-fit;
+          channels-fit = rw length-set (fits .channels-fit);
+          buffer-fits = fits .buffer-fits;
+          line-fits = fits .line-fits;
+          offer-fits = each-set noChannel channelRoom (σ .channels) k other l (λ s. OfferFits (s .offer)) (fits .offer-fits) fo;
+          carried-fits = each-set noChannel channelRoom (σ .channels) k other l (λ s. CarriedFits (s .phase)) (fits .carried-fits) ff;
+        }
+
+-- a node or a channel comes after the others; the start and the count of deliveries are a number each
+
+-- the same head but for what the calls of a plan change, and for the count
+abbrev pub planned : Head → ℕ → ℕ → ℕ → List ℕ → List ℕ → List ℕ → Head
+planned h a n c cap senders receivers =
+    headOf (h .deliveries) a n c (h .spare) cap (h .used) (h .waiting) (h .marks) senders receivers (h .phases) (h .offered)
+
+abbrev pub withHead : Ring → Head → Ring
+withHead ring h = ringIn h (ring .slots) (ring .lines) (ring .offers) (ring .carried)
+
+module _ (σ : Network) where
+  pub hold-with-new-node : (slots : ℕ) → nodeCount σ < nodeRoom →
+      hold (withNewNode slots σ)
+      ≡ withHead (hold σ)
+      (planned (hold σ .head) (hold σ .head .started) (nodeCount σ + 1) (channelCount σ)
+      (set (hold σ .head .capacity) (nodeCount σ) slots)
+      (hold σ .head .senders)
+      (hold σ .head .receivers))
+  unfolding hold holdHead
+  hold-with-new-node slots l =
+      let s : NodeState = record { slots = slots; buffer = []; line = []; mark = false } in
+      let ns = σ .nodes in
       λ i.
-      ringOfArrays (hold σ .started) (length-set (σ .nodes) p s i) (channelCount σ)
-      (padded-map-set 16 blankNode holdNode (σ .nodes) p s l (fits .nodes-fit) i)
-      (hold σ .channels)
-      (queues-set (λ t. t .buffer) (σ .nodes) p s l (fits .nodes-fit) i)
-      (queues-set (λ t. t .line) (σ .nodes) p s l (fits .nodes-fit) i)
-      (σ .deliveries)
+      ringIn
+      (headOf (σ .deliveries) (one (σ .started)) (length-append ns (s ∷ []) i) (channelCount σ) 0
+      (numbers-snoc noNode nodeRoom ns s (λ t. t .slots) l i)
+      (numbers-snoc-left noNode nodeRoom ns s (λ t. length (t .buffer)) refl i)
+      (numbers-snoc-left noNode nodeRoom ns s (λ t. length (t .line)) refl i)
+      (numbers-snoc-left noNode nodeRoom ns s (λ t. one (t .mark)) refl i)
+      (hold σ .head .senders) (hold σ .head .receivers) (hold σ .head .phases) (hold σ .head .offered))
+      (cells-snoc-left noNode nodeRoom ns s rowLength (λ t. cellsOf (t .buffer)) refl i)
+      (cells-snoc-left noNode nodeRoom ns s rowLength (λ t. cellsOf (t .line)) refl i)
+      (hold σ .offers) (hold σ .carried)
 
-  pub hold-with-channel : (k : ℕ) (f : Phase) (o : Option BatchRecord) → k < channelCount σ →
-      hold (withChannel k f o σ)
-      ≡ putChannel k
-      (holdChannel (record { sender = channel σ k .sender; receiver = channel σ k .receiver; phase = f; offer = o }))
-      (hold σ)
-  unfolding hold
-  hold-with-channel k f o l =
-      let s : ChannelState = record { sender = channel σ k .sender; receiver = channel σ k .receiver; phase = f; offer = o } in
+  pub hold-with-new-channel : (sender receiver : ℕ) → channelCount σ < channelRoom →
+      hold (withNewChannel sender receiver σ)
+      ≡ withHead (hold σ)
+      (planned (hold σ .head) (hold σ .head .started) (nodeCount σ) (channelCount σ + 1) (hold σ .head .capacity)
+      (set (hold σ .head .senders) (channelCount σ) sender)
+      (set (hold σ .head .receivers) (channelCount σ) receiver))
+  unfolding hold holdHead
+  hold-with-new-channel sender receiver l =
+      let s : ChannelState = record { sender = sender; receiver = receiver; phase = resting; offer = none } in
+      let cs = σ .channels in
       λ i.
-      ringOfArrays (hold σ .started) (nodeCount σ) (length-set (σ .channels) k s i) (hold σ .nodes)
-      (padded-map-set 64 blankChannel holdChannel (σ .channels) k s l (fits .channels-fit) i)
-      (hold σ .slots)
-      (hold σ .lines)
-      (σ .deliveries)
+      ringIn
+      (headOf (σ .deliveries) (one (σ .started)) (nodeCount σ) (length-append cs (s ∷ []) i) 0
+      (hold σ .head .capacity) (hold σ .head .used) (hold σ .head .waiting) (hold σ .head .marks)
+      (numbers-snoc noChannel channelRoom cs s (λ t. t .sender) l i)
+      (numbers-snoc noChannel channelRoom cs s (λ t. t .receiver) l i)
+      (numbers-snoc-left noChannel channelRoom cs s (λ t. phaseCode (t .phase)) refl i)
+      (numbers-snoc-left noChannel channelRoom cs s (λ t. offeredFlag (t .offer)) refl i))
+      (hold σ .slots) (hold σ .lines)
+      (cells-snoc-left noChannel channelRoom cs s recordLength (λ t. offerBytes (t .offer)) refl i)
+      (cells-snoc-left noChannel channelRoom cs s recordLength (λ t. carriedBytes (t .phase)) refl i)
 
-  -- to put the queue that stands in a row changes nothing
-  pub same-buffer : (p : ℕ) → p < nodeCount σ → putRow (hold σ .slots) p (node σ p .buffer) ≡ hold σ .slots
-  unfolding hold
-  same-buffer p l = rows-put-same 16 (λ q. node σ q .buffer) p (omega (arith, fits .nodes-fit))
+  pub hold-with-started : (b : Bool) →
+      hold (withStarted b σ)
+      ≡ withHead (hold σ)
+      (planned (hold σ .head) (one b) (nodeCount σ) (channelCount σ) (hold σ .head .capacity) (hold σ .head .senders)
+      (hold σ .head .receivers))
+  unfolding hold holdHead
+  hold-with-started b = refl
 
-  pub same-line : (p : ℕ) → p < nodeCount σ → putRow (hold σ .lines) p (node σ p .line) ≡ hold σ .lines
-  unfolding hold
-  same-line p l = rows-put-same 16 (λ q. node σ q .line) p (omega (arith, fits .nodes-fit))
-
-  -- there is still room after a change
-  pub fits-with-node : (p : ℕ) (xs ys : List ℕ) (m : Bool) → length xs ≤ rowLength → length ys ≤ rowLength →
-      Fits (withNode p xs ys m σ)
-  fits-with-node p xs ys m lx ly =
-      let s : NodeState = record { slots = node σ p .slots; buffer = xs; line = ys; mark = m } in
-      record {
-        nodes-fit = rw (length-set (σ .nodes) p s) (fits .nodes-fit);
-        channels-fit = fits .channels-fit;
-        buffer-fits = queues-fit (λ t. t .buffer) (σ .nodes) p s (fits .buffer-fits) lx;
-        line-fits = queues-fit (λ t. t .line) (σ .nodes) p s (fits .line-fits) ly;
-      }
-
-  pub fits-with-channel : (k : ℕ) (f : Phase) (o : Option BatchRecord) → Fits (withChannel k f o σ)
-  fits-with-channel k f o =
-      record {
-        nodes-fit = fits .nodes-fit;
-        channels-fit = rw length-set (fits .channels-fit);
-        buffer-fits = fits .buffer-fits;
-        line-fits = fits .line-fits;
-      }
-
-pub hold-with-new-node : (σ : Network) (slots : ℕ) → nodeCount σ < ringLimits .nodes →
-    hold (withNewNode slots σ) ≡ putNewNode (record { slots = slots; held = 0; waiting = 0; mark = 0 }) (hold σ)
-unfolding hold
-hold-with-new-node σ slots l =
-    let s : NodeState = record { slots = slots; buffer = []; line = []; mark = false } in
-    λ i.
-    ringOfArrays (hold σ .started) (length-append (σ .nodes) (s ∷ []) i) (channelCount σ)
-    (padded-map-snoc 16 blankNode holdNode (σ .nodes) s l i)
-    (hold σ .channels)
-    (queues-snoc (λ t. t .buffer) (σ .nodes) s refl i)
-    (queues-snoc (λ t. t .line) (σ .nodes) s refl i)
-    (σ .deliveries)
-
-pub hold-with-new-channel : (σ : Network) (sender receiver : ℕ) → channelCount σ < ringLimits .channels →
-    hold (withNewChannel sender receiver σ)
-    ≡ putNewChannel (holdChannel (record { sender = sender; receiver = receiver; phase = resting; offer = none })) (hold σ)
-unfolding hold
-hold-with-new-channel σ sender receiver l =
-    let s : ChannelState = record { sender = sender; receiver = receiver; phase = resting; offer = none } in
-    λ i.
-    ringOfArrays (hold σ .started) (nodeCount σ) (length-append (σ .channels) (s ∷ []) i) (hold σ .nodes)
-    (padded-map-snoc 64 blankChannel holdChannel (σ .channels) s l i)
-    (hold σ .slots)
-    (hold σ .lines)
-    (σ .deliveries)
-
--- the start and the count of deliveries are a field each
-
-pub hold-with-started : (σ : Network) (b : Bool) → hold (withStarted b σ) ≡ putStarted (one b) (hold σ)
-unfolding hold
-hold-with-started σ b = refl
-
-pub hold-with-deliveries : (σ : Network) (d : ℕ) → hold (withDeliveries d σ) ≡ putDeliveries d (hold σ)
-unfolding hold
-hold-with-deliveries σ d = refl
+  pub hold-with-deliveries : (d : ℕ) → hold (Network.withDeliveries d σ) ≡ withHead (hold σ) (Layout.withDeliveries (hold σ .head) d)
+  unfolding hold holdHead
+  hold-with-deliveries d = refl

@@ -128,3 +128,11 @@ length-snoc xs k = omega (arith, length-append xs (k ∷ []))
 pub one-most : (b : Bool) → one b ≤ 1
 one-most true = omega arith
 one-most false = omega arith
+
+-- a sum over more, where the rest is nothing
+pub sum-beyond : (m n : ℕ) (f : ℕ → ℕ) → n ≤ m → ((p : ℕ) → n ≤ p → p < m → f p ≡ 0) → sum m f ≡ sum n f
+unfolding sum
+sum-beyond zero n f l none = let e : n ≡ 0 = omega arith in rw e
+sum-beyond (suc m) n f l none =
+    by-same n (suc m) (λ e. rw e)
+    (λ d. omega (arith, sum-beyond m n f (omega arith) (λ p a b. none p a (omega arith)), none m (omega arith) (omega arith)))

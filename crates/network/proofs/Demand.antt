@@ -25,7 +25,7 @@ use Rattle.network.specs.Demand.{RefusesUnsound, Safe, InTime, UnderWay,
 use Rattle.network.proofs.Cases.{by-test, by-less, by-phase}
 use Rattle.network.proofs.State.{Net, State, Sound, Did, CanEnter, CanMove}
 use Rattle.network.proofs.Tables.{netOf, stateOf}
-use Rattle.network.proofs.Clauses.{Started, sound-started, started-sound}
+use Rattle.network.proofs.Clauses.{Started, facts, sound-started, started-sound}
 use Rattle.network.proofs.Outcomes.{After, not-done, was-done, Silent}
 use Rattle.network.proofs.Accepted.{Answered, by-step, by-question, Stepped, call-did}
 use Rattle.network.proofs.Before.{Idle, Prepared, call-before, sound-idle, idle-rests, fresh-sound}
@@ -33,7 +33,7 @@ use Rattle.network.proofs.Bridge.{stepped-started, call-sound, enter-ac
 use Rattle.network.proofs.Measure.{Place, Ψ, placed, Ψ-some, falls}
 use Rattle.network.proofs.Stall.{no-stall}
 use Rattle.network.proofs.Order.{pending, in-order-step}
-use Rattle.network.proofs.Memory.{Fits, view-hold, hold-view, view-fresh, sound-fresh, sound-fits, sound-ring-parts, sound-hold}
+use Rattle.network.proofs.Memory.{Fits, view-hold, hold-fresh, view-fresh, sound-fits, sound-ring, sound-hold}
 use Rattle.network.proofs.Machine.{seenBy, Machine, carried-over}
 use Rattle.network.proofs.Run.{Falls, Arrives, Travels, every-run, run-order}
 
@@ -229,7 +229,7 @@ held-seen (accepted e τ) fits = ap (accepted e) (view-hold τ (fits e τ refl))
 
 module _ (a : Call) (ring : Ring) (ok : soundRing ring ≡ true) where
   inside : sound ringLimits (view ring) ≡ true
-  inside = sound-ring-parts ring ok .1
+  inside = sound-ring ring ok .sound
 
   next-sound : (e : Event) (τ : Network) → call ringLimits a (view ring) ≡ accepted e τ → sound ringLimits τ ≡ true
   next-sound e τ same = subst (λ o. sound ringLimits (after (view ring) o) ≡ true) same (call-sound ringLimits (view ring) a inside)
@@ -239,7 +239,7 @@ module _ (a : Call) (ring : Ring) (ok : soundRing ring ≡ true) where
   called = rw ok
 
   ring-seen : seenBy view (callRing a ring) ≡ call ringLimits a (view ring)
-  ring-seen = rw called (held-seen _ (λ e τ same. sound-fits τ (next-sound e τ same)))
+  ring-seen = rw called (held-seen _ (λ e τ same. sound-fits τ (facts ringLimits τ (next-sound e τ same))))
 
   ring-kept : soundRing (after ring (callRing a ring)) ≡ true
   ring-kept = rw called (still (call ringLimits a (view ring)) next-sound)
@@ -255,14 +255,17 @@ module _ (a : Call) (ring : Ring) (ok : soundRing ring ≡ true) where
     where
       still : (o : Outcome Network) → after (view ring) o ≡ view ring → after ring (heldOutcome o) ≡ ring
       still (refused r) e = refl
-      still (accepted e τ) same = ap hold same ∙ hold-view ring (sound-ring-parts ring ok .0)
+      still (accepted e τ) same = ap hold same ∙ sound-ring ring ok .laid-out
+
+sound-fresh : soundRing freshRing ≡ true
+sound-fresh = rw (← hold-fresh) (sound-hold fresh (fresh-sound ringLimits))
 
 pub ring-machine : Machine ringLimits freshRing soundRing view callRing
 ring-machine =
     record {
       fresh-sound = sound-fresh;
       fresh-seen = view-fresh;
-      seen-sound = λ ring ok. sound-ring-parts ring ok .1;
+      seen-sound = λ ring ok. sound-ring ring ok .sound;
       step-seen = ring-seen;
       step-sound = ring-kept;
     }

@@ -8,7 +8,7 @@ use native.Mathlib.Nat.{not-suc-le-zero, le-of-suc-le-suc}
 use lib.Dec.{eqb}
 use lib.ListN.{length, getD}
 use borrow.Author.Tests.{eqb-true}
-use Rattle.batch.specs.Good.{verdictOf, goodRecord, batchGood, tempGood, nameLengthGood, nameGood, nameCellsGood}
+use Rattle.batch.specs.Good.{verdictOf, goodRecord, batchGood, tempGood, nameLengthGood, nameGood, widthsGood, nameCellsGood}
 use Rattle.hops.specs.Hops.{hops, next}
 use Rattle.network.specs.Counting.{sum, weigh, allOf, allBelow}
 use Rattle.network.specs.Calls.{arrival}
@@ -30,11 +30,11 @@ right-at (e ∷ es) d t zero l = eqb-true _ _ (and-left (right e) (allRight es) 
 right-at (e ∷ es) d t (suc i) l = right-at es d (and-right (right e) (allRight es) t) i (le-of-suc-le-suc l)
 
 pub edges-hold : EdgesHold
-unfolding right allRight edges sum hops verdictOf batchGood tempGood nameLengthGood nameGood nameCellsGood Calls.addNode Calls.addChannel Calls.start
+unfolding right allRight edges sum hops verdictOf batchGood tempGood nameLengthGood nameGood widthsGood nameCellsGood Calls.addNode Calls.addChannel Calls.start
 edges-hold = right-at edges _ refl
 
 pub listing-holds : ListingHolds
-unfolding sum hops next verdictOf batchGood tempGood nameLengthGood nameGood nameCellsGood arrival Calls.addNode Calls.addChannel Calls.start Calls.receive Calls.send Calls.enter Calls.move
+unfolding sum hops next verdictOf batchGood tempGood nameLengthGood nameGood widthsGood nameCellsGood arrival Calls.addNode Calls.addChannel Calls.start Calls.receive Calls.send Calls.enter Calls.move
 listing-holds = (refl, refl)
 
 pub turn-holds : TurnHolds

@@ -1,22 +1,21 @@
 -- How a ring lies in memory, and the ring calls on it. `view` reads the ring off its arrays, `hold` lays one out; the definitions
--- above know nothing of cells. Node p's row is cells 64p to 64p + 63 of `slots` (its buffer) and of `lines` (its line); a used cell
--- holds channel number + 1, and every cell that holds nothing is zero. Only this file knows 16 nodes, 64 channels and 64 cells a row.
--- Assumes nothing.
+-- above know nothing of cells. Only this file knows how many nodes, channels and cells the arrays have room for. Assumes nothing.
 use Prim.Native.Nat.{ℕ, zero, suc, pred, _+_, _*_}
-use mathlib.Core.Bool.{Bool, true, false, cond, _&&_, _||_}
+use mathlib.Core.Bool.{Bool, true, false, cond, _&&_}
 use mathlib.Core.List.{List, [], _∷_, _++_, map}
 use mathlib.Core.Option.{Option, none, some}
-use lib.Dec.{leb, ltb, eqb}
+use lib.Dec.{eqb}
 use lib.ListN.{length, getD, take, drop, replicate}
 use Rattle.refusal.specs.declared.Refusal.{Refusal}
 use Rattle.refusal.specs.declared.Refusal.the-variants.{UnsoundRing}
 use Rattle.batch.specs.declared.BatchRecord.{BatchRecord}
-use Rattle.batch.specs.Blank.{noRecord, blankRecord}
+use Rattle.wire.specs.Record.{recordLength, recordBytes, recordIn}
 use Rattle.network.specs.declared.Ring.{Ring}
-use Rattle.network.specs.declared.Node.{Node}
-use Rattle.network.specs.declared.Channel.{Channel}
-use Rattle.network.specs.Counting.{one, allBelow, allOf, tabulate}
-use Rattle.network.specs.Network.{Network, NodeState, ChannelState, Phase, resting, asking, ready, answering, ringOf, node}
+use Rattle.network.specs.declared.Head.{Head}
+use Rattle.network.specs.declared.Step.{Step}
+use Rattle.network.specs.declared.HeadStep.{HeadStep}
+use Rattle.network.specs.Counting.{one, tabulate}
+use Rattle.network.specs.Network.{Network, NodeState, ChannelState, Phase, resting, asking, ready, answering, ringOf, node, channel}
 use Rattle.network.specs.Sound.{Limits}
 use Rattle.network.specs.Sound
 use Rattle.network.specs.Calls.{Outcome, refused, accepted, unless}
@@ -26,10 +25,41 @@ use Rattle.network.specs.Runs.{Call, call}
 abbrev pub ringLimits : Limits
 ringLimits = record { nodes = 16; channels = 64; slots = 64 }
 
+-- the sizes of the arrays: room for so many nodes and channels, the cells of a node's row, all cells, the bytes of all records
+abbrev pub nodeRoom : ℕ
+nodeRoom = 16
+
+abbrev pub channelRoom : ℕ
+channelRoom = 64
+
 abbrev pub rowLength : ℕ
 rowLength = 64
 
--- the numbers that stand for a phase
+abbrev pub cellRoom : ℕ
+cellRoom = rowLength * nodeRoom
+
+abbrev pub recordRoom : ℕ
+recordRoom = recordLength * channelRoom
+
+-- rows of so many cells each: row p, a list made as long as a row by zeros, and the rows 0 to n - 1 one after the other
+unfoldable pub row : ℕ → List ℕ → ℕ → List ℕ
+row width cells p = take width (drop (width * p) cells)
+
+unfoldable pub padded : ℕ → List ℕ → List ℕ
+padded width xs = take width (xs ++ replicate width 0)
+
+unfoldable pub rows : ℕ → ℕ → (ℕ → List ℕ) → List ℕ
+rows width zero f = []
+rows width (suc n) f = rows width n f ++ padded width (f n)
+
+-- Node p's rows hold its buffer and its line: a used cell holds channel number + 1, oldest first.
+abbrev pub cellsOf : List ℕ → List ℕ
+cellsOf xs = map suc xs
+
+abbrev pub queueOf : ℕ → List ℕ → List ℕ
+queueOf used cells = map pred (take used cells)
+
+-- the numbers that stand for a phase, with the record that is carried
 abbrev pub phaseCode : Phase → ℕ
 phaseCode resting = 0
 phaseCode asking = 1
@@ -39,170 +69,157 @@ phaseCode (answering x) = 3
 abbrev pub phaseOf : ℕ → BatchRecord → Phase
 phaseOf code carried = cond (eqb code 0) resting (cond (eqb code 1) asking (cond (eqb code 2) ready (answering carried)))
 
--- the row of node p, and a list made as long as a row or a table by what stands for nothing
-unfoldable pub row : List ℕ → ℕ → List ℕ
-row cells p = take rowLength (drop (rowLength * p) cells)
+-- the number that stands for an offer, with the record that is offered
+abbrev pub offeredFlag : Option BatchRecord → ℕ
+offeredFlag none = 0
+offeredFlag (some x) = 1
 
-unfoldable pub padded {ℓ} : {A : Type ℓ} → ℕ → A → List A → List A
-padded n blank xs = take n (xs ++ replicate n blank)
+abbrev pub offerOf : ℕ → BatchRecord → Option BatchRecord
+offerOf flag offer = cond (eqb flag 1) (some offer) none
 
--- a queue of channels as a row of cells, and the queue in the first cells of a row
-abbrev pub cellsOf : List ℕ → List ℕ
-cellsOf xs = padded rowLength 0 (map suc xs)
-
-abbrev pub queueOf : ℕ → List ℕ → List ℕ
-queueOf held cells = map pred (take held cells)
-
--- what a node or a channel that there is not holds
-abbrev pub blankNode : Node
-blankNode = record { slots = 0; held = 0; waiting = 0; mark = 0 }
-
-abbrev pub blankChannel : Channel
-blankChannel = record { sender = record { 0 = 0 }; receiver = record { 0 = 0 }; phase = 0; offered = 0; offer = noRecord; carried = noRecord }
+-- channel k's record, in the bytes that it has on a tape too
+abbrev pub recordAt : List ℕ → ℕ → BatchRecord
+recordAt records k = recordIn (row recordLength records k)
 
 -- reading a ring off its arrays
 
 abbrev pub viewNode : Ring → ℕ → NodeState
 viewNode ring p =
     record {
-      slots = getD (ring .nodes) p blankNode .slots;
-      buffer = queueOf (getD (ring .nodes) p blankNode .held) (row (ring .slots) p);
-      line = queueOf (getD (ring .nodes) p blankNode .waiting) (row (ring .lines) p);
-      mark = eqb (getD (ring .nodes) p blankNode .mark) 1;
+      slots = getD (ring .head .capacity) p 0;
+      buffer = queueOf (getD (ring .head .used) p 0) (row rowLength (ring .slots) p);
+      line = queueOf (getD (ring .head .waiting) p 0) (row rowLength (ring .lines) p);
+      mark = eqb (getD (ring .head .marks) p 0) 1;
     }
 
-abbrev pub viewChannel : Channel → ChannelState
-viewChannel ch =
+abbrev pub viewChannel : Ring → ℕ → ChannelState
+viewChannel ring k =
     record {
-      sender = ch .sender .0;
-      receiver = ch .receiver .0;
-      phase = phaseOf (ch .phase) (ch .carried);
-      offer = cond (eqb (ch .offered) 1) (some (ch .offer)) none;
+      sender = getD (ring .head .senders) k 0;
+      receiver = getD (ring .head .receivers) k 0;
+      phase = phaseOf (getD (ring .head .phases) k 0) (recordAt (ring .carried) k);
+      offer = offerOf (getD (ring .head .offered) k 0) (recordAt (ring .offers) k);
     }
 
 unfoldable pub view : Ring → Network
 view ring =
-    ringOf (eqb (ring .started) 1)
-    (tabulate (ring .«node_count») (viewNode ring))
-    (map viewChannel (take (ring .«channel_count») (ring .channels)))
-    (ring .deliveries)
+    ringOf (eqb (ring .head .started) 1)
+    (tabulate (ring .head .«node_count») (viewNode ring))
+    (tabulate (ring .head .«channel_count») (viewChannel ring))
+    (ring .head .deliveries)
 
 -- laying a ring out
 
-abbrev pub holdNode : NodeState → Node
-holdNode s = record { slots = s .slots; held = length (s .buffer); waiting = length (s .line); mark = one (s .mark) }
+-- the bytes of a record that is there, and none where there is none, which leaves a row of zeros
+abbrev pub offerBytes : Option BatchRecord → List ℕ
+offerBytes none = []
+offerBytes (some x) = recordBytes x
 
-abbrev pub offerCell : Option BatchRecord → BatchRecord
-offerCell none = noRecord
-offerCell (some x) = x
+abbrev pub carriedBytes : Phase → List ℕ
+carriedBytes resting = []
+carriedBytes asking = []
+carriedBytes ready = []
+carriedBytes (answering x) = recordBytes x
 
-abbrev pub offeredFlag : Option BatchRecord → ℕ
-offeredFlag none = 0
-offeredFlag (some x) = 1
+-- a number for each node and for each channel; what there is not reads as nothing, so as 0
+abbrev pub byNode : Network → (NodeState → ℕ) → List ℕ
+byNode σ f = tabulate nodeRoom (λ p. f (node σ p))
 
-abbrev pub carriedCell : Phase → BatchRecord
-carriedCell resting = noRecord
-carriedCell asking = noRecord
-carriedCell ready = noRecord
-carriedCell (answering x) = x
+abbrev pub byChannel : Network → (ChannelState → ℕ) → List ℕ
+byChannel σ f = tabulate channelRoom (λ k. f (channel σ k))
 
-abbrev pub holdChannel : ChannelState → Channel
-holdChannel s =
+unfoldable pub holdHead : Network → Head
+holdHead σ =
     record {
-      sender = record { 0 = s .sender };
-      receiver = record { 0 = s .receiver };
-      phase = phaseCode (s .phase);
-      offered = offeredFlag (s .offer);
-      offer = offerCell (s .offer);
-      carried = carriedCell (s .phase);
+      deliveries = σ .deliveries;
+      started = one (σ .started);
+      «node_count» = length (σ .nodes);
+      «channel_count» = length (σ .channels);
+      spare = 0;
+      capacity = byNode σ (λ s. s .slots);
+      used = byNode σ (λ s. length (s .buffer));
+      waiting = byNode σ (λ s. length (s .line));
+      marks = byNode σ (λ s. one (s .mark));
+      senders = byChannel σ (λ s. s .sender);
+      receivers = byChannel σ (λ s. s .receiver);
+      phases = byChannel σ (λ s. phaseCode (s .phase));
+      offered = byChannel σ (λ s. offeredFlag (s .offer));
     }
-
--- the rows of n nodes, one after the other
-unfoldable pub rows : ℕ → (ℕ → List ℕ) → List ℕ
-rows zero f = []
-rows (suc n) f = rows n f ++ cellsOf (f n)
 
 unfoldable pub hold : Network → Ring
 hold σ =
     record {
-      started = one (σ .started);
-      «node_count» = length (σ .nodes);
-      «channel_count» = length (σ .channels);
-      nodes = padded (ringLimits .nodes) blankNode (map holdNode (σ .nodes));
-      channels = padded (ringLimits .channels) blankChannel (map holdChannel (σ .channels));
-      slots = rows (ringLimits .nodes) (λ p. node σ p .buffer);
-      lines = rows (ringLimits .nodes) (λ p. node σ p .line);
-      deliveries = σ .deliveries;
+      head = holdHead σ;
+      slots = rows rowLength nodeRoom (λ p. cellsOf (node σ p .buffer));
+      lines = rows rowLength nodeRoom (λ p. cellsOf (node σ p .line));
+      offers = rows recordLength channelRoom (λ k. offerBytes (channel σ k .offer));
+      carried = rows recordLength channelRoom (λ k. carriedBytes (channel σ k .phase));
     }
 
 -- A fresh ring has no node, no channel and all 1,024 slot cells empty.
-abbrev pub freshRing : Ring
-freshRing =
+abbrev pub freshHead : Head
+freshHead =
     record {
+      deliveries = 0;
       started = 0;
       «node_count» = 0;
       «channel_count» = 0;
-      nodes = replicate 16 blankNode;
-      channels = replicate 64 blankChannel;
-      slots = replicate 1024 0;
-      lines = replicate 1024 0;
-      deliveries = 0;
+      spare = 0;
+      capacity = replicate nodeRoom 0;
+      used = replicate nodeRoom 0;
+      waiting = replicate nodeRoom 0;
+      marks = replicate nodeRoom 0;
+      senders = replicate channelRoom 0;
+      receivers = replicate channelRoom 0;
+      phases = replicate channelRoom 0;
+      offered = replicate channelRoom 0;
     }
 
--- laid out as it should be: counts, flags and phases in range, and everything that is not in use zero
+abbrev pub freshRing : Ring
+freshRing =
+    record {
+      head = freshHead;
+      slots = replicate 1024 0;
+      lines = replicate cellRoom 0;
+      offers = replicate recordRoom 0;
+      carried = replicate recordRoom 0;
+    }
 
--- the first `held` cells of a row are used, the others zero
-unfoldable pub queueLaidOut : ℕ → List ℕ → Bool
-queueLaidOut held cells =
-    leb held rowLength && allOf (λ x. ltb 0 x) (take held cells) && allOf (λ x. eqb x 0) (drop held cells)
+-- Laid out as it should be: what is read off the ring, laid out again, is this ring, number for number. So flags and phases are in
+-- range, and every cell and byte that holds nothing is zero.
 
-abbrev pub isBlankNode : Node → Bool
-isBlankNode d = eqb (d .slots) 0 && eqb (d .held) 0 && eqb (d .waiting) 0 && eqb (d .mark) 0
+unfoldable pub same : List ℕ → List ℕ → Bool
+same [] [] = true
+same [] (y ∷ ys) = false
+same (x ∷ xs) [] = false
+same (x ∷ xs) (y ∷ ys) = eqb x y && same xs ys
 
-abbrev pub isBlankChannel : Channel → Bool
-isBlankChannel ch =
-    eqb (ch .sender .0) 0
-    && eqb (ch .receiver .0) 0
-    && eqb (ch .phase) 0
-    && eqb (ch .offered) 0
-    && blankRecord (ch .offer)
-    && blankRecord (ch .carried)
+unfoldable pub sameHead : Head → Head → Bool
+sameHead a b =
+    eqb (a .deliveries) (b .deliveries)
+    && eqb (a .started) (b .started)
+    && eqb (a .«node_count») (b .«node_count»)
+    && eqb (a .«channel_count») (b .«channel_count»)
+    && eqb (a .spare) (b .spare)
+    && same (a .capacity) (b .capacity)
+    && same (a .used) (b .used)
+    && same (a .waiting) (b .waiting)
+    && same (a .marks) (b .marks)
+    && same (a .senders) (b .senders)
+    && same (a .receivers) (b .receivers)
+    && same (a .phases) (b .phases)
+    && same (a .offered) (b .offered)
 
-unfoldable pub nodeLaidOut : Ring → ℕ → Bool
-nodeLaidOut ring p =
-    cond (ltb p (ring .«node_count»)) (leb (getD (ring .nodes) p blankNode .mark) 1) (isBlankNode (getD (ring .nodes) p blankNode))
-    && queueLaidOut (getD (ring .nodes) p blankNode .held) (row (ring .slots) p)
-    && queueLaidOut (getD (ring .nodes) p blankNode .waiting) (row (ring .lines) p)
-
--- a record stands in a channel only where it is offered or carried
-abbrev pub channelInUse : Channel → Bool
-channelInUse ch =
-    leb (ch .phase) 3
-    && leb (ch .offered) 1
-    && (eqb (ch .offered) 1 || blankRecord (ch .offer))
-    && (eqb (ch .phase) 3 || blankRecord (ch .carried))
-
-unfoldable pub channelLaidOut : Ring → ℕ → Bool
-channelLaidOut ring k =
-    cond (ltb k (ring .«channel_count»)) (channelInUse (getD (ring .channels) k blankChannel))
-    (isBlankChannel (getD (ring .channels) k blankChannel))
-
--- every array as long as its type says, which it always is
-abbrev pub arraysWhole : Ring → Bool
-arraysWhole ring =
-    eqb (length (ring .nodes)) 16
-    && eqb (length (ring .channels)) 64
-    && eqb (length (ring .slots)) 1024
-    && eqb (length (ring .lines)) 1024
+unfoldable pub sameRing : Ring → Ring → Bool
+sameRing a b =
+    sameHead (a .head) (b .head)
+    && same (a .slots) (b .slots)
+    && same (a .lines) (b .lines)
+    && same (a .offers) (b .offers)
+    && same (a .carried) (b .carried)
 
 unfoldable pub laidOut : Ring → Bool
-laidOut ring =
-    arraysWhole ring
-    && leb (ring .started) 1
-    && leb (ring .«node_count») (ringLimits .nodes)
-    && leb (ring .«channel_count») (ringLimits .channels)
-    && allBelow (ringLimits .nodes) (nodeLaidOut ring)
-    && allBelow (ringLimits .channels) (channelLaidOut ring)
+laidOut ring = sameRing (hold (view ring)) ring
 
 -- A sound ring in memory: laid out as it should be, and sound as the ring that it holds.
 unfoldable pub soundRing : Ring → Bool
@@ -215,3 +232,66 @@ heldOutcome (accepted e σ) = accepted e (hold σ)
 -- A ring call in memory. An unsound ring is refused before all others.
 unfoldable pub callRing : Call → Ring → Outcome Ring
 callRing a ring = unless (soundRing ring) (refused UnsoundRing) (heldOutcome (call ringLimits a (view ring)))
+
+-- the same head with other numbers of its nodes or its channels: those that a started ring's calls change
+abbrev pub withNodes : Head → List ℕ → List ℕ → List ℕ → Head
+withNodes h used waiting marks =
+    record {
+      deliveries = h .deliveries;
+      started = h .started;
+      «node_count» = h .«node_count»;
+      «channel_count» = h .«channel_count»;
+      spare = h .spare;
+      capacity = h .capacity;
+      used = used;
+      waiting = waiting;
+      marks = marks;
+      senders = h .senders;
+      receivers = h .receivers;
+      phases = h .phases;
+      offered = h .offered;
+    }
+
+abbrev pub withChannels : Head → List ℕ → List ℕ → Head
+withChannels h phases offered =
+    record {
+      deliveries = h .deliveries;
+      started = h .started;
+      «node_count» = h .«node_count»;
+      «channel_count» = h .«channel_count»;
+      spare = h .spare;
+      capacity = h .capacity;
+      used = h .used;
+      waiting = h .waiting;
+      marks = h .marks;
+      senders = h .senders;
+      receivers = h .receivers;
+      phases = phases;
+      offered = offered;
+    }
+
+abbrev pub withDeliveries : Head → ℕ → Head
+withDeliveries h deliveries =
+    record {
+      deliveries = deliveries;
+      started = h .started;
+      «node_count» = h .«node_count»;
+      «channel_count» = h .«channel_count»;
+      spare = h .spare;
+      capacity = h .capacity;
+      used = h .used;
+      waiting = h .waiting;
+      marks = h .marks;
+      senders = h .senders;
+      receivers = h .receivers;
+      phases = h .phases;
+      offered = h .offered;
+    }
+
+-- the ring, and the ring with its answer, of a head and of the cells and records that lie apart from it
+abbrev pub ringIn : Head → List ℕ → List ℕ → List ℕ → List ℕ → Ring
+ringIn head slots lines offers carried =
+    record { head = head; slots = slots; lines = lines; offers = offers; carried = carried }
+
+abbrev pub stepIn : HeadStep → List ℕ → List ℕ → List ℕ → List ℕ → Step
+stepIn s slots lines offers carried = record { ring = ringIn (s .head) slots lines offers carried; reply = s .reply }

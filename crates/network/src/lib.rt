@@ -1,65 +1,75 @@
 // The ring of document 01 as it lies in memory, and the types of its calls. No operation is coded here: the definitions that every
 // contract cites stand in specs/, and the theorems about them in proofs/.
 //
-// Every field of the ring is an integer or a record of integers. So every pattern of bytes that is lent as a ring is a value, which the
-// test for a sound ring judges, and a ring can be lent to C.
+// Every field of the ring is an integer or an array of bytes, and every byte of a ring is part of a field. So every pattern of bytes that
+// is lent as a ring is a value, which the test for a sound ring judges; and a ring can be lent to C, compared and stored as memory. What
+// is large is an array of bytes, which a call is lent where it lies; what is small, the head, goes by value.
 use batch::BatchRecord;
 use refusal::Refusal;
+use wire;
 ghost use mathlib.Core.Path.{_≡_};
 ghost use Rattle.network.specs.Layout.{freshRing};
+
+// The sizes of the arrays: how many nodes and channels there is room for, and how many cells the row of a node has. What document 01
+// allows are the limits of `Ring`, below.
+pub const NODES: usize = 16;
+
+pub const CHANNELS: usize = 64;
+
+pub const ROW: usize = 64;
+
+pub const CELLS: usize = NODES * ROW;
+
+pub const RECORDS: usize = CHANNELS * wire::RECORD_LENGTH;
+
+// A byte for each node or channel, by number; a row of cells for each node; and the bytes of a record for each channel.
+pub type ByNode = [u8; NODES];
+
+pub type ByChannel = [u8; CHANNELS];
+
+pub type Cells = [u8; CELLS];
+
+pub type Records = [u8; RECORDS];
 
 // Three kinds of number that are never taken for one another; the third is a batch number, `BatchNo` of `batch`.
 pub struct NodeNo(pub u8);
 
 pub struct ChannelNo(pub u8);
 
-// A node. Its buffer stands in its row of `slots`, and its line in its row of `lines`.
-pub struct Node {
-    // How many slots the buffer has.
-    pub slots: u8,
-    // How many of them are in use.
-    pub held: u8,
-    // How long the line is: document 01's word for the node's own messages that wait to enter the buffer.
-    pub waiting: u8,
-    // The turn mark, 0 or 1: the line goes before passing traffic.
-    pub mark: u8,
-}
-
-// A channel. A record stands in `offer` only while `offered` is 1, and in `carried` only while the channel is answering.
-pub struct Channel {
-    pub sender: NodeNo,
-    pub receiver: NodeNo,
-    // One of the four phases below.
-    pub phase: u8,
-    // 1 where a record is offered.
-    pub offered: u8,
-    pub offer: BatchRecord,
-    pub carried: BatchRecord,
-}
-
-impl Channel {
-    // Nothing is under way.
-    pub const RESTING: u8 = 0;
-    // Its request is on the ring.
-    pub const ASKING: u8 = 1;
-    // The request arrived and no record was offered.
-    pub const READY: u8 = 2;
-    // Its response is on the ring, with the record carried.
-    pub const ANSWERING: u8 = 3;
-}
-
-// A ring. Node p's row is cells 64p to 64p + 63 of `slots` and of `lines`; a used cell holds channel number + 1, oldest first, and
-// every cell that holds nothing is zero.
-pub struct Ring {
+// A ring but for its cells and its records.
+#[repr(C)]
+pub struct Head {
+    // How many records were delivered; the count stops at the largest number.
+    pub deliveries: u32,
     pub started: u8,
     pub node_count: u8,
     pub channel_count: u8,
-    pub nodes: [Node; 16],
-    pub channels: [Channel; 64],
-    pub slots: [u8; 1024],
-    pub lines: [u8; 1024],
-    // How many records were delivered; the count stops at the largest number.
-    pub deliveries: u32,
+    // Always zero: it takes the place that would be padding.
+    pub spare: u8,
+    // Of each node: how many slots its buffer has, and how many of them are used.
+    pub capacity: ByNode,
+    pub used: ByNode,
+    // How long its line is: document 01's word for the node's own messages that wait to enter the buffer.
+    pub waiting: ByNode,
+    // The turn mark, 0 or 1: the line goes before passing traffic.
+    pub marks: ByNode,
+    // Of each channel: its two nodes, one of the four phases of `Ring`, and 1 where a record is offered.
+    pub senders: ByChannel,
+    pub receivers: ByChannel,
+    pub phases: ByChannel,
+    pub offered: ByChannel,
+}
+
+// A ring. Node p's row of `slots` is its buffer and its row of `lines` its line: a used cell holds channel number + 1, oldest first.
+// Channel k's bytes of `offers` are the record offered, and those of `carried` the one that its response carries. Every cell and byte
+// that holds nothing is zero.
+#[repr(C)]
+pub struct Ring {
+    pub head: Head,
+    pub slots: Cells,
+    pub lines: Cells,
+    pub offers: Records,
+    pub carried: Records,
 }
 
 impl Ring {
@@ -70,34 +80,40 @@ impl Ring {
 
     pub const MOST_SLOTS: u8 = 64;
 
+    // The phases of a channel. Nothing is under way.
+    pub const RESTING: u8 = 0;
+    // Its request is on the ring.
+    pub const ASKING: u8 = 1;
+    // The request arrived and no record was offered.
+    pub const READY: u8 = 2;
+    // Its response is on the ring, with the record carried.
+    pub const ANSWERING: u8 = 3;
+
     // A fresh ring has no node, no channel and all slot cells empty.
     pub fn fresh() -> Ring
         ensures { λ r. ⌜ r ≡ freshRing ⌝ }
     {
-        let none = BatchRecord::none();
-        let node = Node {
-            slots: 0,
-            held: 0,
-            waiting: 0,
-            mark: 0,
-        };
-        let channel = Channel {
-            sender: NodeNo(0),
-            receiver: NodeNo(0),
-            phase: Channel::RESTING,
-            offered: 0,
-            offer: none,
-            carried: none,
-        };
-        Ring {
+        let head = Head {
+            deliveries: 0,
             started: 0,
             node_count: 0,
             channel_count: 0,
-            nodes: [node; 16],
-            channels: [channel; 64],
+            spare: 0,
+            capacity: [0; NODES],
+            used: [0; NODES],
+            waiting: [0; NODES],
+            marks: [0; NODES],
+            senders: [0; CHANNELS],
+            receivers: [0; CHANNELS],
+            phases: [0; CHANNELS],
+            offered: [0; CHANNELS],
+        };
+        Ring {
+            head,
             slots: [0; 1024],
-            lines: [0; 1024],
-            deliveries: 0,
+            lines: [0; CELLS],
+            offers: [0; RECORDS],
+            carried: [0; RECORDS],
         }
     }
 }
@@ -123,5 +139,11 @@ pub struct Reply {
 // The ring after a call, and its answer.
 pub struct Step {
     pub ring: Ring,
+    pub reply: Reply,
+}
+
+// The same after a call that was lent the cells and the records, which it has changed where they lie.
+pub struct HeadStep {
+    pub head: Head,
     pub reply: Reply,
 }

@@ -1,2 +1,2 @@
--- The laws of the three calls that build a ring.
+-- The laws of the calls of this crate.
 pub mod Building

@@ -4,33 +4,47 @@ use Prim.Native.Nat.{ℕ, zero, suc, _+_, _*_, _≤_, _<_}
 use mathlib.Core.Path.{_≡_, refl, sym, ap, _∙_}
 use mathlib.Core.Logic.{_≢_}
 use mathlib.Core.Bool.{Bool, true, false, _||_}
-use mathlib.Core.List.{List, map}
+use mathlib.Core.List.{List, [], _∷_}
 use mathlib.Core.Option.{Option, none, some}
 use native.Mathlib.Nat.{add-zero}
 use native.Mathlib.Numerals.{add-one}
 use native.Mathlib.Omega.{arith}
 use lib.Dec.{eqb, ltb}
-use lib.ListN.{length, getD, take, length-map, List·getD-map}
+use lib.ListN.{length, getD, take}
 use lib.Seq.{take-suc, take-all}
-use borrow.Author.Tests.{lt-ltb, le-ltb, eq-eqb, ne-eqb}
-use Rattle.refusal.specs.declared.Refusal.the-variants.{NotStarted, NoSuchChannel}
+use borrow.Author.Tests.{lt-ltb, eq-eqb, ne-eqb}
 use Rattle.batch.specs.declared.BatchRecord.{BatchRecord}
+use Rattle.hops.specs.Hops.{hops, sheetNodes, sheetHops}
+use Rattle.hops.proofs.Laws.{hops-to-n, on-sheet, off-sheet}
+use Rattle.network.specs.declared.Head.{Head}
 use Rattle.network.specs.declared.Ring.{Ring}
-use Rattle.network.specs.declared.Channel.{Channel}
-use Rattle.hops.specs.Hops.{hops, sheetHops}
-use Rattle.hops.proofs.Laws.{hops-to-n, on-sheet}
 use Rattle.network.specs.Counting.{one, weigh, count}
-use Rattle.network.specs.Network.{Network, ChannelState, Phase, resting, asking, ready, answering, channelCount, node, channel}
-use Rattle.network.specs.Calls.{hopsAre, refused, accepted, holder, hopsLeftOf, hopsOf}
+use Rattle.network.specs.Network.{Network, ChannelState, asking, answering, nodeCount, node, channel}
+use Rattle.network.specs.Calls.{hopsAre, accepted, holder, hopsLeftOf, hopsOf}
 use Rattle.network.specs.Calls
 use Rattle.network.specs.Runs
-use Rattle.network.specs.Layout.{rowLength, phaseOf, row, cellsOf, blankNode, viewChannel, view, soundRing, heldOutcome, callRing}
-use Rattle.network.proofs.Cases.{by-test, by-same}
+use Rattle.network.specs.Layout.{rowLength, cellsOf, view, hold, soundRing, callRing}
+use Rattle.network.proofs.Cases.{by-test, by-same, by-less, by-phase}
 use Rattle.network.proofs.Counting.{weigh-snoc}
 use Rattle.network.proofs.Rows.{getD-padded, getD-row}
-use Rattle.network.proofs.Memory.{held-node, held-buffer}
-use Rattle.questions.specs.Asked.{standsIn, standsAt, ChannelRead}
-use Rattle.change.proofs.Opening.{sound-called, met, opened, getD-there}
+use Rattle.network.proofs.Memory.{SoundRing, sound-ring, HeldNode}
+use Rattle.change.specs.Flat.{usedAt}
+use Rattle.change.specs.Known.{AtChannel}
+use Rattle.change.proofs.Opening.{sound-called}
+use Rattle.change.proofs.Reading.{channel-known, channel-there, channel-numbers, channel-running}
+use Rattle.questions.specs.Asked.{Within, standsIn, placeIn, wayIn, hopsIn}
+
+-- what the parts of a question ask, a sound ring has
+pub sound-within : (ring : Ring) → soundRing ring ≡ true → Within (ring .head)
+sound-within ring ok =
+    let s = sound-ring ring ok in
+    record {
+      nodes = omega (arith, s .holds .node-count, s .fits .nodes-fit);
+      channels = omega (arith, s .holds .channel-count, s .fits .channels-fit);
+      rows = λ p l.
+          let there : p < nodeCount (view ring) = omega (arith, s .holds .node-count) in
+          omega (arith, s .holds .nodes p (omega (arith, s .fits .nodes-fit)) .used, s .fits .buffer-fits p there);
+    }
 
 -- the search in a row of cells, turn by turn
 
@@ -48,6 +62,24 @@ module _ (cells : List ℕ) (base cell : ℕ) where
   unfolding standsIn
   stands-before j i e d = rw (e, ne-eqb _ _ d)
 
+-- the search over the nodes, turn by turn
+
+module _ (h : Head) (slots : List ℕ) (cell entry : ℕ) where
+  pub place-nowhere : placeIn h slots cell entry 0 ≡ entry
+  unfolding placeIn
+  place-nowhere = refl
+
+  pub place-here : (q p : ℕ) → q ≡ suc p → standsIn slots (rowLength * p) cell (usedAt h p) ≡ true → placeIn h slots cell entry q ≡ p
+  unfolding placeIn
+  place-here q p e t = rw (e, t)
+
+  pub place-before : (q p : ℕ) → q ≡ suc p → standsIn slots (rowLength * p) cell (usedAt h p) ≡ false →
+      placeIn h slots cell entry q ≡ placeIn h slots cell entry p
+  unfolding placeIn
+  place-before q p e t = rw (e, t)
+
+-- cells that hold the numbers of xs, each one higher, hold k + 1 where xs holds k
+
 some-more : (b : Bool) (n : ℕ) → ltb 0 (n + one b) ≡ (b || ltb 0 n)
 some-more true n = lt-ltb 0 (n + 1) (omega arith)
 some-more false n = rw add-zero
@@ -57,7 +89,11 @@ same-higher a b =
     by-same a b (λ e. eq-eqb _ _ (ap suc e) ∙ sym (eq-eqb a b e))
     (λ d. ne-eqb (suc a) (suc b) (λ e. d (omega arith)) ∙ sym (ne-eqb a b d))
 
--- cells that hold the numbers of xs, each one higher, hold k + 1 where xs holds k
+higher-at : (xs : List ℕ) (i : ℕ) → i < length xs → getD (cellsOf xs) i 0 ≡ suc (getD xs i 0)
+higher-at [] i l = absurd (omega arith)
+higher-at (x ∷ xs) zero l = refl
+higher-at (x ∷ xs) (suc i) l = higher-at xs i (omega arith)
+
 module _ (cells : List ℕ) (base k : ℕ) (xs : List ℕ)
     (higher : (i : ℕ) → i < length xs → getD cells (base + i) 0 ≡ suc (getD xs i 0)) where
   stands-counted : (j : ℕ) → j ≤ length xs → standsIn cells base (suc k) j ≡ ltb 0 (count k (take j xs))
@@ -73,87 +109,33 @@ module _ (cells : List ℕ) (base k : ℕ) (xs : List ℕ)
         stands-counted j (omega arith),
       )
 
-  pub stands-where : standsIn cells base (suc k) (length xs) ≡ ltb 0 (count k xs)
+  stands-where : standsIn cells base (suc k) (length xs) ≡ ltb 0 (count k xs)
   stands-where = stands-counted (length xs) (omega arith) ∙ ap (λ ys. ltb 0 (count k ys)) (take-all (length xs) xs (omega arith))
 
--- the buffer of node p in the cells of a sound ring
-module _ (ring : Ring) (ok : soundRing ring ≡ true) (p : ℕ) (inside : p < ring .«node_count») where
-  abbrev buffer : List ℕ
-  buffer = node (view ring) p .buffer
+-- what the sheet says is at most its number of nodes, whatever it is asked
+pub sheet-most : (n p q : ℕ) {r : ℕ} → r ≡ sheetHops n p q → r ≤ sheetNodes
+sheet-most n p q {r} said =
+    let off : (n ≤ sheetNodes → p < n → q < n → ⊥) → r ≤ sheetNodes = λ none. omega (arith, off-sheet n p q none) in
+    by-less sheetNodes n (λ l. off (λ a b c. omega arith)) λ most.
+    by-less p n
+    (λ lp.
+    by-less q n (λ lq. omega (arith, on-sheet n p q most lp lq, hops-to-n n p q lp lq)) (λ l. off (λ a b c. omega arith)))
+    (λ l. off (λ a b c. omega arith))
 
-  within : p < 16
-  within = omega (arith, opened ring ok .layout)
+-- and the way from a node that was found is the way from where it is
+pub way-found : (n q : ℕ) {r from p : ℕ} → r ≡ sheetHops n from q → from ≡ p → r ≡ sheetHops n p q
+way-found n q said found = said ∙ ap (λ p. sheetHops n p q) found
 
-  pub held-here : getD (ring .nodes) p blankNode .held ≡ length buffer
-  held-here =
-      ap (λ r. getD (r .nodes) p blankNode .held) (sym (opened ring ok .held)) ∙ ap (λ d. d .held) (held-node (view ring) p within)
+-- the node where a message is: the one that holds it in its buffer, or else the node of entry
+abbrev standsAt : Option ℕ → ℕ → ℕ
+standsAt none entry = entry
+standsAt (some p) entry = p
 
-  buffer-row : row (ring .slots) p ≡ cellsOf buffer
-  buffer-row = ap (λ r. row (r .slots) p) (sym (opened ring ok .held)) ∙ held-buffer (view ring) p within
-
-  pub short-buffer : length buffer ≤ 64
-  short-buffer = opened ring ok .fits .buffer-fits p (rw (opened ring ok .node-count) inside)
-
-  higher-cell : (i : ℕ) → i < length buffer → getD (ring .slots) (rowLength * p + i) 0 ≡ suc (getD buffer i 0)
-  higher-cell i l =
-      sym (getD-row (ring .slots) p i (omega (arith, short-buffer)))
-      ∙ ap (λ r. getD r i 0) buffer-row
-      ∙ getD-padded 64 0 (map suc buffer) i (omega (arith, short-buffer))
-      ∙ getD-there (map suc buffer) i 0 1 (omega (arith, length-map buffer suc))
-      ∙ List·getD-map suc buffer i 0
-
-  pub stands-in-buffer : (k : ℕ) →
-      standsIn (ring .slots) (rowLength * p) (k + 1) (getD (ring .nodes) p blankNode .held) ≡ ltb 0 (count k buffer)
-  stands-in-buffer k = rw (add-one k, held-here) (stands-where (ring .slots) (rowLength * p) k buffer higher-cell)
-
--- the search over the nodes, turn by turn
-
-module _ (σ : Network) (k : ℕ) where
-  pub holder-here : (q p : ℕ) → q ≡ suc p → ltb 0 (count k (node σ p .buffer)) ≡ true → holder σ k q ≡ some p
-  unfolding holder
-  holder-here q p e t = rw (e, t)
-
-  pub holder-before : (q p : ℕ) → q ≡ suc p → ltb 0 (count k (node σ p .buffer)) ≡ false → holder σ k q ≡ holder σ k p
-  unfolding holder
-  holder-before q p e t = rw (e, t)
-
-  pub holder-none : holder σ k 0 ≡ none
-  unfolding holder
-  holder-none = refl
-
-  -- a message stands at a node of the ring
-  pub stands-below : (entry n m : ℕ) → entry < n → m ≤ n → standsAt (holder σ k m) entry < n
-  unfolding holder
-  stands-below entry n zero l h = l
-  stands-below entry n (suc m) l h =
-      by-test (ltb 0 (count k (node σ m .buffer))) (λ t. rw t (omega arith)) (λ t. rw t (stands-below entry n m l (omega arith)))
-
--- the call on a sound ring
-
-module _ (ring : Ring) (ok : soundRing ring ≡ true) (k : ℕ) where
-  pub hops-not-started : ring .started ≡ 0 → callRing (Runs.hopsLeft k) ring ≡ refused NotStarted
-  unfolding Calls.hopsLeft
-  hops-not-started still = rw (sound-called (Runs.hopsLeft k) ring ok, opened ring ok .idle still)
-
-  module _ (started : ring .started ≢ 0) where
-    pub hops-no-channel : ring .«channel_count» ≤ k → callRing (Runs.hopsLeft k) ring ≡ refused NoSuchChannel
-    unfolding Calls.hopsLeft
-    hops-no-channel beyond =
-        let o = opened ring ok in
-        rw (sound-called (Runs.hopsLeft k) ring ok, o .running started, o .channel-count, le-ltb _ _ beyond)
-
-    pub hops-done : k < ring .«channel_count» → callRing (Runs.hopsLeft k) ring ≡ accepted (hopsAre (hopsOf (view ring) k)) ring
-    unfolding Calls.hopsLeft
-    hops-done inside =
-        let o = opened ring ok in
-        let there : k < channelCount (view ring) = rw (o .channel-count) inside in
-        sound-called (Runs.hopsLeft k) ring ok
-        ∙ ap heldOutcome
-        (met (view ring .started) _ _ (o .running started)
-        ∙ met (ltb k (channelCount (view ring))) _ _ (lt-ltb _ _ there))
-        ∙ ap (accepted (hopsAre (hopsOf (view ring) k))) (o .held)
-
--- hops left by the code of the phase
+stands-below : (σ : Network) (k entry n m : ℕ) → entry < n → m ≤ n → standsAt (holder σ k m) entry < n
+unfolding holder
+stands-below σ k entry n zero l h = l
+stands-below σ k entry n (suc m) l h =
+    by-test (ltb 0 (count k (node σ m .buffer))) (λ t. rw t (omega arith)) (λ t. rw t (stands-below σ k entry n m l (omega arith)))
 
 asking-hops : (n : ℕ) (s : ChannelState) (at : Option ℕ) →
     hopsLeftOf n s asking at ≡ hops n (standsAt at (s .receiver)) (s .sender) + hops n (s .sender) (s .receiver)
@@ -165,77 +147,87 @@ answering-hops : (n : ℕ) (s : ChannelState) (x : BatchRecord) (at : Option ℕ
 answering-hops n s x none = refl
 answering-hops n s x (some p) = refl
 
--- the hops of an answering message from its sender node, and of an asking one from where it stands, as on the sheet
-abbrev pub back : Ring → Channel → ℕ
-back ring ch = sheetHops (ring .«node_count») (ch .sender .0) (ch .receiver .0)
-
-abbrev pub there : Ring → ℕ → Channel → ℕ
-there ring k ch =
-    sheetHops (ring .«node_count») (standsAt (holder (view ring) k (ring .«node_count»)) (ch .receiver .0)) (ch .sender .0)
-
-module _ (ring : Ring) (k : ℕ) (ch : Channel) (h : ChannelRead ring k ch) where
-  open ChannelRead h using (ok, inside, read)
+-- what the code finds of a channel of a sound started ring is what the definitions say of the ring that is held
+module _ {ring : Ring} {k : ℕ} (h : AtChannel ring k) where
+  abbrev σ : Network
+  σ = view ring
 
   abbrev n : ℕ
-  n = ring .«node_count»
+  n = nodeCount σ
 
-  abbrev at : Option ℕ
-  at = holder (view ring) k n
+  known : SoundRing ring
+  known = channel-known h
 
-  here : channel (view ring) k ≡ viewChannel ch
-  here = let o = opened ring ok in o .channel-at k (omega (arith, o .layout)) ∙ ap viewChannel (sym read)
+  module _ (p : ℕ) (there : p < n) where
+    abbrev buffer : List ℕ
+    buffer = node σ p .buffer
 
-  hops-in : (f : Phase) → phaseOf (ch .phase) (ch .carried) ≡ f → hopsOf (view ring) k ≡ hopsLeftOf n (viewChannel ch) f at
+    short-buffer : length buffer ≤ rowLength
+    short-buffer = known .fits .buffer-fits p there
+
+    numbers : HeldNode ring σ p
+    numbers = known .holds .nodes p (omega (arith, known .fits .nodes-fit))
+
+    higher-cell : (i : ℕ) → i < length buffer → getD (ring .slots) (rowLength * p + i) 0 ≡ suc (getD buffer i 0)
+    higher-cell i l =
+        sym (getD-row rowLength (ring .slots) p i (omega (arith, short-buffer)))
+        ∙ ap (λ r. getD r i 0) (numbers .buffer-row)
+        ∙ getD-padded rowLength (cellsOf buffer) i (omega (arith, short-buffer))
+        ∙ higher-at buffer i l
+
+    stands-in-buffer : standsIn (ring .slots) (rowLength * p) (k + 1) (usedAt (ring .head) p) ≡ ltb 0 (count k buffer)
+    stands-in-buffer = rw (add-one k, numbers .used) (stands-where (ring .slots) (rowLength * p) k buffer higher-cell)
+
+  place-held : (entry m : ℕ) → m ≤ n → placeIn (ring .head) (ring .slots) (k + 1) entry m ≡ standsAt (holder σ k m) entry
+  unfolding placeIn holder
+  place-held entry zero l = refl
+  place-held entry (suc p) l =
+      rw (stands-in-buffer p (omega arith))
+      (by-test (ltb 0 (count k (node σ p .buffer))) (λ t. rw t) (λ t. rw t (place-held entry p (omega arith))))
+
+  -- the ends are nodes of the ring, and so is the node where the message stands
+  abbrev sender : ℕ
+  sender = channel σ k .sender
+
+  abbrev receiver : ℕ
+  receiver = channel σ k .receiver
+
+  sender-below : sender < n
+  sender-below = known .facts .each-channel k (channel-there h) .sender-below
+
+  receiver-below : receiver < n
+  receiver-below = known .facts .each-channel k (channel-there h) .receiver-below
+
+  abbrev from : ℕ → ℕ
+  from entry = standsAt (holder σ k n) entry
+
+  on-the-sheet : (p q : ℕ) → p < n → q < n → sheetHops (ring .head .«node_count») p q ≡ hops n p q
+  on-the-sheet p q lp lq =
+      ap (λ m. sheetHops m p q) (known .holds .node-count) ∙ on-sheet n p q (known .fits .nodes-fit) lp lq
+
+  way-is : (entry q : ℕ) → entry < n → q < n → wayIn (ring .head) (ring .slots) k entry q ≡ hops n (from entry) q
+  way-is entry q le lq =
+      let count = known .holds .node-count in
+      ap (λ p. sheetHops (ring .head .«node_count») p q)
+      (ap (placeIn (ring .head) (ring .slots) (k + 1) entry) count ∙ place-held entry n (omega arith))
+      ∙ on-the-sheet (from entry) q (stands-below σ k entry n n le (omega arith)) lq
+
+  hops-found : hopsIn (ring .head) (ring .slots) k ≡ hopsOf σ k
   unfolding hopsOf
-  hops-in f e = rw (opened ring ok .node-count, here) (ap (λ g. hopsLeftOf n (viewChannel ch) g at) e)
+  hops-found =
+      let c = channel-numbers h in
+      let at = holder σ k n in
+      let back = on-the-sheet sender receiver sender-below receiver-below in
+      let there = way-is receiver sender receiver-below sender-below in
+      rw (c .sender, c .receiver, c .phase)
+      (by-phase (channel σ k .phase) (λ e. rw e)
+      (λ e. rw (e, there, back) (sym (asking-hops n (channel σ k) at)))
+      (λ e. rw e back)
+      (λ x e. rw (e, way-is sender receiver sender-below receiver-below) (sym (answering-hops n (channel σ k) x at))))
 
-  -- the ends are nodes of the ring
-  pub sender-below : ch .sender .0 < n
-  sender-below =
-      let o = opened ring ok in
-      rw (here, o .node-count) at (o .facts .each-channel k (rw (o .channel-count) inside) .sender-below)
+  called : callRing (Runs.hopsLeft k) ring ≡ accepted (hopsAre (hopsOf σ k)) (hold σ)
+  unfolding Calls.hopsLeft
+  called = rw (sound-called (Runs.hopsLeft k) ring (h .ok), channel-running h, lt-ltb _ _ (channel-there h))
 
-  pub receiver-below : ch .receiver .0 < n
-  receiver-below =
-      let o = opened ring ok in
-      rw (here, o .node-count) at (o .facts .each-channel k (rw (o .channel-count) inside) .receiver-below)
-
-  -- what the sheet says of a way between two nodes of the ring, and that two ways fit a byte
-  on-the-sheet : (p q : ℕ) → p < n → q < n → sheetHops n p q ≡ hops n p q
-  on-the-sheet p q lp lq = on-sheet n p q (opened ring ok .layout .nodes-within) lp lq
-
-  at-below : (entry : ℕ) → entry < n → standsAt at entry < n
-  at-below entry l = stands-below (view ring) k entry n n l (omega arith)
-
-  back-is : back ring ch ≡ hops n (ch .sender .0) (ch .receiver .0)
-  back-is = on-the-sheet _ _ sender-below receiver-below
-
-  there-is : there ring k ch ≡ hops n (standsAt at (ch .receiver .0)) (ch .sender .0)
-  there-is = on-the-sheet _ _ (at-below _ receiver-below) sender-below
-
-  pub two-ways : there ring k ch + back ring ch < 256
-  two-ways =
-      omega (
-        arith,
-        opened ring ok .layout .nodes-within,
-        there-is,
-        back-is,
-        hops-to-n n (standsAt at (ch .receiver .0)) (ch .sender .0) (at-below _ receiver-below) sender-below,
-        hops-to-n n (ch .sender .0) (ch .receiver .0) sender-below receiver-below,
-      )
-
-  pub hops-resting : ch .phase ≡ 0 → hopsOf (view ring) k ≡ 0
-  hops-resting e = hops-in resting (rw e)
-
-  pub hops-ready : ch .phase ≡ 2 → hopsOf (view ring) k ≡ back ring ch
-  hops-ready e = hops-in ready (rw e) ∙ sym back-is
-
-  pub hops-asking : ch .phase ≡ 1 → hopsOf (view ring) k ≡ there ring k ch + back ring ch
-  hops-asking e = hops-in asking (rw e) ∙ asking-hops n (viewChannel ch) at ∙ rw (there-is, back-is)
-
-  pub hops-answering : ch .phase ≢ 0 → ch .phase ≢ 1 → ch .phase ≢ 2 →
-      hopsOf (view ring) k ≡ sheetHops n (standsAt at (ch .sender .0)) (ch .receiver .0)
-  hops-answering d0 d1 d2 =
-      hops-in (answering (ch .carried)) (rw (ne-eqb _ _ d0, ne-eqb _ _ d1, ne-eqb _ _ d2))
-      ∙ answering-hops n (viewChannel ch) (ch .carried) at
-      ∙ sym (on-the-sheet _ _ (at-below _ sender-below) receiver-below)
+  pub hops-answered : callRing (Runs.hopsLeft k) ring ≡ accepted (hopsAre (hopsIn (ring .head) (ring .slots) k)) ring
+  hops-answered = called ∙ λ i. accepted (hopsAre (sym hops-found i)) (known .laid-out i)

@@ -1,107 +1,90 @@
 -- The waiting set of a node as the code makes it, from the last channel to the first, and how many ones it has: as many as there are
 -- channels that wait at the node. Assumes nothing.
 use Prim.Native.Nat.{ℕ, zero, suc, _+_, _*_, _^_, _≤_, _<_}
-use mathlib.Core.Path.{_≡_, refl, ap, _∙_}
-use mathlib.Core.Logic.{_≢_}
-use mathlib.Core.Bool.{Bool, true, false}
-use mathlib.Core.List.{List}
+use mathlib.Core.Path.{_≡_, refl, sym, ap, _∙_}
+use mathlib.Core.Bool.{Bool, true, false, _&&_, not}
 use native.Mathlib.Nat.{pow-suc, mul-assoc, mul-add, mul-comm, add-comm, lt-of-lt-of-le}
 use native.Mathlib.Omega.{arith}
 use lib.Count.{ones, onesIn, ones-cat}
 use lib.Dec.{eqb}
-use lib.ListN.{getD}
 use lib.Pow.{pow-mono}
-use borrow.Author.Tests.{lt-ltb, le-ltb, eq-eqb, ne-eqb}
+use borrow.Author.Tests.{lt-ltb, le-ltb}
 use Rattle.refusal.specs.declared.Refusal.the-variants.{NoSuchNode}
-use Rattle.batch.specs.declared.BatchRecord.{BatchRecord}
+use Rattle.network.specs.declared.Head.{Head}
 use Rattle.network.specs.declared.Ring.{Ring}
-use Rattle.network.specs.declared.Channel.{Channel}
 use Rattle.network.specs.Counting.{one, sum}
-use Rattle.network.specs.Network.{Network, channelCount, channel}
+use Rattle.network.specs.Network.{Network, Phase, resting, asking, ready, answering, nodeCount, channelCount, channel}
 use Rattle.network.specs.Sound.{isResting}
 use Rattle.network.specs.Calls.{waitingAre, refused, accepted, waitingOf}
 use Rattle.network.specs.Calls
 use Rattle.network.specs.Runs
-use Rattle.network.specs.Layout.{phaseOf, blankChannel, viewChannel, view, soundRing, callRing}
-use Rattle.network.proofs.Cases.{by-same, by-test}
-use Rattle.network.proofs.Counting.{sum-same}
-use Rattle.questions.specs.Asked.{waits}
-use Rattle.change.proofs.Opening.{sound-called, opened}
+use Rattle.network.specs.Layout.{channelRoom, phaseCode, view, soundRing, callRing}
+use Rattle.network.proofs.Cases.{by-test}
+use Rattle.network.proofs.Counting.{sum-same, one-most}
+use Rattle.network.proofs.Memory.{SoundRing, sound-ring}
+use Rattle.change.specs.Flat.{receiverAt, phaseAt}
+use Rattle.change.proofs.Opening.{sound-called}
+use Rattle.questions.specs.Asked.{waits, waitsAt, bits, waitingIn}
 
-resting-code : (code : ℕ) (x : BatchRecord) → isResting (phaseOf code x) ≡ eqb code 0
-resting-code code x =
-    by-same code 0 (λ e. rw e) λ d0.
-    by-same code 1 (λ e. rw e) λ d1.
-    by-same code 2 (λ e. rw e) λ d2.
-    rw (ne-eqb _ _ d0, ne-eqb _ _ d1, ne-eqb _ _ d2)
+-- the bits of the channels, by their numbers and as the definitions say
 
--- whether a channel waits, by the numbers in its cells
-module _ (p : ℕ) (of : Channel) where
-  pub other-waits-not : of .receiver .0 ≢ p → one (waits p (viewChannel of)) ≡ 0
-  other-waits-not d = rw (ne-eqb _ _ d)
+at-rest : (f : Phase) → eqb (phaseCode f) 0 ≡ isResting f
+at-rest resting = refl
+at-rest asking = refl
+at-rest ready = refl
+at-rest (answering x) = refl
 
-  pub resting-waits-not : of .receiver .0 ≡ p → of .phase ≡ 0 → one (waits p (viewChannel of)) ≡ 0
-  resting-waits-not e f = rw (eq-eqb _ _ e, f)
-
-  pub busy-waits : of .receiver .0 ≡ p → of .phase ≢ 0 → one (waits p (viewChannel of)) ≡ 1
-  busy-waits e d = rw (eq-eqb _ _ e, resting-code (of .phase) (of .carried), ne-eqb _ _ d)
-
--- a set of bits: the sum of 2 ^ j over the j below n with b j = 1
-
-abbrev pub bits : (ℕ → ℕ) → ℕ → ℕ
-bits b n = sum n (λ j. 2 ^ j * b j)
+pub waits-most : (h : Head) (p k : ℕ) → waitsAt h p k ≤ 1
+waits-most h p k = one-most (eqb (receiverAt h k) p && not (eqb (phaseAt h k) 0))
 
 pub no-bits : (b : ℕ → ℕ) → bits b 0 ≡ 0
 unfolding sum
 no-bits b = refl
 
--- one channel less below, and the set above moves up by a bit
-pub bit-moved : (b : ℕ → ℕ) (set k i : ℕ) → k ≡ suc i → bits b k + 2 ^ k * set ≡ bits b i + 2 ^ i * (2 * set + b i)
+-- one channel less below, and the set above moves up by its bit
+pub bit-moved : (b : ℕ → ℕ) (set k i : ℕ) {v : ℕ} → k ≡ suc i → v ≡ b i → bits b k + 2 ^ k * set ≡ bits b i + 2 ^ i * (2 * set + v)
 unfolding sum
-bit-moved b set k i e =
-    rw (e, pow-suc 2 i, mul-assoc (2 ^ i) 2 set, mul-add (2 ^ i) (2 * set) (b i)) (omega arith)
+bit-moved b set k i e f =
+    rw (e, f, pow-suc 2 i, mul-assoc (2 ^ i) 2 set, mul-add (2 ^ i) (2 * set) (b i)) (omega arith)
 
 pub set-doubled : (m set b : ℕ) → set < 2 ^ m → b ≤ 1 → 2 * set + b < 2 ^ suc m
 set-doubled m set b l s = rw (pow-suc 2 m) (omega arith)
 
--- 64 bits are enough for 64 channels
-pub set-fits : (m set b : ℕ) → m < 64 → set < 2 ^ m → b ≤ 1 → 2 * set + b < 2 ^ 64
+-- 64 bits are enough for all channels
+pub set-fits : (m set b : ℕ) → m < channelRoom → set < 2 ^ m → b ≤ 1 → 2 * set + b < 2 ^ channelRoom
 set-fits m set b few l s = lt-of-lt-of-le (set-doubled m set b l s) (pow-mono few)
-
-abbrev pub waitsIn : List Channel → ℕ → ℕ → ℕ
-waitsIn channels p k = one (waits p (viewChannel (getD channels k blankChannel)))
-
-one-most : (b : Bool) → one b ≤ 1
-one-most true = omega arith
-one-most false = omega arith
-
-pub waits-most : (channels : List Channel) (p k : ℕ) → waitsIn channels p k ≤ 1
-waits-most channels p k = one-most (waits p (viewChannel (getD channels k blankChannel)))
-
-pub waiting-bits : (ring : Ring) → soundRing ring ≡ true → (p : ℕ) →
-    waitingOf (view ring) p ≡ bits (waitsIn (ring .channels) p) (ring .«channel_count»)
-unfolding waitingOf
-waiting-bits ring ok p =
-    let o = opened ring ok in
-    rw (o .channel-count)
-    (sum-same (ring .«channel_count») (λ k. 2 ^ k * one (waits p (channel (view ring) k))) (λ k. 2 ^ k * waitsIn (ring .channels) p k)
-    (λ k l. rw (o .channel-at k (omega (arith, o .layout)))))
 
 -- the call on a sound ring
 
 module _ (ring : Ring) (ok : soundRing ring ≡ true) (p : ℕ) where
-  pub waiting-no-node : ring .«node_count» ≤ p → callRing (Runs.waitingSet p) ring ≡ refused NoSuchNode
+  known : SoundRing ring
+  known = sound-ring ring ok
+
+  waits-here : (k : ℕ) → k < channelCount (view ring) → one (waits p (channel (view ring) k)) ≡ waitsAt (ring .head) p k
+  waits-here k l =
+      let c = known .holds .channels k (omega (arith, known .fits .channels-fit)) in
+      rw (c .receiver, c .phase, at-rest (channel (view ring) k .phase))
+
+  waiting-found : waitingOf (view ring) p ≡ waitingIn (ring .head) p
+  unfolding waitingOf
+  waiting-found =
+      sum-same (channelCount (view ring)) (λ k. 2 ^ k * one (waits p (channel (view ring) k)))
+      (λ k. 2 ^ k * waitsAt (ring .head) p k) (λ k l. rw (waits-here k l))
+      ∙ ap (bits (waitsAt (ring .head) p)) (sym (known .holds .channel-count))
+
+  pub waiting-no-node : ring .head .«node_count» ≤ p → callRing (Runs.waitingSet p) ring ≡ refused NoSuchNode
   unfolding Calls.waitingSet
   waiting-no-node beyond =
-      rw (sound-called (Runs.waitingSet p) ring ok, opened ring ok .node-count, le-ltb _ _ beyond)
+      let none : nodeCount (view ring) ≤ p = omega (arith, known .holds .node-count) in
+      rw (sound-called (Runs.waitingSet p) ring ok, le-ltb _ _ none)
 
-  pub waiting-done : p < ring .«node_count» →
-      callRing (Runs.waitingSet p) ring ≡ accepted (waitingAre (waitingOf (view ring) p)) ring
+  pub waiting-answered : p < ring .head .«node_count» →
+      callRing (Runs.waitingSet p) ring ≡ accepted (waitingAre (waitingIn (ring .head) p)) ring
   unfolding Calls.waitingSet
-  waiting-done inside =
-      let o = opened ring ok in
-      rw (sound-called (Runs.waitingSet p) ring ok, o .node-count, lt-ltb _ _ inside)
-      (ap (accepted (waitingAre (waitingOf (view ring) p))) (o .held))
+  waiting-answered inside =
+      let there : p < nodeCount (view ring) = omega (arith, known .holds .node-count) in
+      rw (sound-called (Runs.waitingSet p) ring ok, lt-ltb _ _ there)
+      (λ i. accepted (waitingAre (waiting-found i)) (known .laid-out i))
 
 -- the ones of a set of bits are counted one by one
 

@@ -7,8 +7,9 @@ use lib.ListN.{length}
 use borrow.Author.Tests.{le-leb}
 use Rattle.wire.specs.Bytes.{overwritten}
 use Rattle.listing.specs.declared.Put.{Put}
+use Rattle.listing.specs.Line.{lineRoom}
 use Rattle.listing.specs.Put.{putAnswer, put}
-use Rattle.runner.specs.Run.{lineRoom, Placed, endOfPut}
+use Rattle.runner.specs.Run.{Placed, endOfPut}
 
 pub placed : (line : List ℕ) (at : ℕ) (before after : List ℕ) (answer : Put) (end : ℕ) → at + lineRoom ≤ length before
     → (answer ≡ putAnswer before at line) × ((after ≡ put before at line) × (length line ≤ lineRoom))

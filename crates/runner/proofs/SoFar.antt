@@ -10,11 +10,12 @@ use lib.Seq.{take-at, drop-at, drop-drop, length-take-le}
 use Rattle.network.proofs.Cases.{by-same}
 use Rattle.wire.specs.Bytes.{overwritten}
 use Rattle.wire.proofs.Buffer.{length-overwritten}
+use Rattle.listing.specs.Line.{lineRoom}
 use Rattle.runner.specs.declared.Session.{Session}
 use Rattle.runner.specs.declared.Progress.{Progress}
 use Rattle.runner.specs.Session.{Printed, next, lines, afterLines}
 use Rattle.runner.specs.Listing.{stopping, toCome}
-use Rattle.runner.specs.Run.{lineRoom, Ran, Placed, Printing, finished, PrintsTheListing}
+use Rattle.runner.specs.Run.{Ran, Placed, Printing, finished, PrintsTheListing}
 use Rattle.runner.specs.Run
 use Rattle.runner.proofs.Lines.{nothing-after, line-by-line, some-line, last-session, last-line}
 use Rattle.runner.proofs.Counts.{from-the-beginning}

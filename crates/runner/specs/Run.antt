@@ -6,16 +6,13 @@ use mathlib.Core.Bool.{true, false}
 use mathlib.Core.List.{List, [], _++_}
 use lib.ListN.{length, take, drop}
 use Rattle.wire.specs.Bytes.{overwritten}
+use Rattle.listing.specs.Line.{lineRoom}
 use Rattle.listing.specs.declared.Put.{Put}
 use Rattle.listing.specs.declared.Put.the-variants.{Written, NoRoom}
 use Rattle.runner.specs.declared.Session.{Session}
 use Rattle.runner.specs.declared.Progress.{Progress}
 use Rattle.runner.specs.Session.{beginning, lines, afterLines}
 use Rattle.runner.specs.Listing.{listingOf, stopping, toCome}
-
--- no line is longer
-abbrev pub lineRoom : ℕ
-lineRoom = 128
 
 -- A run of a tape from session s: the next `count` lines, at the front of the buffer, and the session after them; the rest of the buffer
 -- is as it was. The run ends only where the session is over or there is less room than for the longest line, so something is written

@@ -3,11 +3,14 @@
 use batch::BatchRecord;
 use listing::Put;
 use network::Answer;
+use network::Cells;
 use network::ChannelNo;
+use network::Head;
+use network::HeadStep;
 use network::NodeNo;
+use network::Records;
 use network::Reply;
 use network::Ring;
-use network::Step;
 use refusal::Refusal;
 use tape::Action;
 use tape::Command;
@@ -18,7 +21,8 @@ ghost use lib.ListN.{length, getD};
 ghost use Rattle.network.specs.declared.Ring.{Ring};
 ghost use Rattle.network.specs.Answers.{replyOf};
 ghost use Rattle.network.specs.Calls;
-ghost use Rattle.listing.specs.Line.{lineOf, endOf, tooLong};
+ghost use Rattle.network.specs.Layout.{ringIn, stepIn};
+ghost use Rattle.listing.specs.Line.{lineRoom, lineOf, endOf, tooLong};
 ghost use Rattle.runner.specs.Calls.{callOf, stepRing};
 ghost use Rattle.runner.specs.Session.{beginning, isRefusal};
 ghost use Rattle.runner.specs.Listing.{stopping};
@@ -27,9 +31,6 @@ ghost use Rattle.runner.specs.Tally.{sessionOf, closedTally, countedTall
 
 // The longest tape that is run.
 pub const LONGEST_TAPE: usize = 60000;
-
-// Room for any line.
-const LINE_ROOM: usize = 128;
 
 // Where a run of a tape stands.
 pub struct Session {
@@ -111,26 +112,75 @@ fn code_at(tape: &[u8], place: usize) -> u8
     if place < tape.len() { tape[place] } else { 0 }
 }
 
-// The ring call of a command.
-fn call(ring: Ring, command: Command) -> Step
-    ensures { λ r. ⌜ r ≡ stepRing (callOf command) ring ⌝ }
+// The ring call of a command, on a ring whose cells and records are lent.
+fn call(
+    head: Head,
+    slots: &mut Cells,
+    lines: &mut Cells,
+    offers: &mut Records,
+    carried: &mut Records,
+    command: Command,
+) -> HeadStep
+    ensures { λ r. ⌜ stepIn r (now (slots .exit)) (now (lines .exit)) (now (offers .exit)) (now (carried .exit))
+        ≡ stepRing (callOf command)
+        (ringIn head (now (slots .entry)) (now (lines .entry)) (now (offers .entry)) (now (carried .entry))) ⌝ }
 {
     let action = command.action;
     match action {
-        Action::AddNode(slots) => plan::add_node(ring, slots),
-        Action::AddChannel(sender, receiver) => plan::add_channel(
-            ring,
+        Action::AddNode(capacity) => plan::lent::add_node(
+            head,
+            slots,
+            lines,
+            offers,
+            carried,
+            capacity,
+        ),
+        Action::AddChannel(sender, receiver) => plan::lent::add_channel(
+            head,
+            slots,
+            lines,
+            offers,
+            carried,
             NodeNo(sender),
             NodeNo(receiver),
         ),
-        Action::Start => plan::start(ring),
-        Action::Receive(channel) => endpoints::receive(ring, ChannelNo(channel)),
+        Action::Start => plan::lent::start(head, slots, lines, offers, carried),
+        Action::Receive(channel) => endpoints::lent::receive(
+            head,
+            slots,
+            lines,
+            offers,
+            carried,
+            ChannelNo(channel),
+        ),
         Action::Send(channel) => {
             let record = command.record;
-            endpoints::send(ring, ChannelNo(channel), record)
+            endpoints::lent::send(
+                head,
+                slots,
+                lines,
+                offers,
+                carried,
+                ChannelNo(channel),
+                record,
+            )
         }
-        Action::Enter(node) => traffic::enter(ring, NodeNo(node)),
-        Action::Move(node) => traffic::move_on(ring, NodeNo(node)),
+        Action::Enter(node) => traffic::lent::enter(
+            head,
+            slots,
+            lines,
+            offers,
+            carried,
+            NodeNo(node),
+        ),
+        Action::Move(node) => traffic::lent::move_on(
+            head,
+            slots,
+            lines,
+            offers,
+            carried,
+            NodeNo(node),
+        ),
     }
 }
 
@@ -157,7 +207,7 @@ fn end_of(put: Put, at: usize) -> usize
 
 // Writes a command's line at a place of the buffer.
 fn put_line(out: &mut [u8], at: usize, number: u32, code: u8, reply: Reply) -> usize
-    requires { ⌜ at + 128 ≤ length (now out) ⌝ }
+    requires { ⌜ at + lineRoom ≤ length (now out) ⌝ }
     ensures { λ r. ⌜ Placed (lineOf number code reply) at (now (out .entry)) (now (out .exit)) r ⌝ }
 {
     let put = listing::write_line(out, at, number, code, reply);
@@ -166,7 +216,7 @@ fn put_line(out: &mut [u8], at: usize, number: u32, code: u8, reply: Reply) -> u
 
 // Writes the last line.
 fn put_end(out: &mut [u8], at: usize, accepted: u32, refused: u32) -> usize
-    requires { ⌜ at + 128 ≤ length (now out) ⌝ }
+    requires { ⌜ at + lineRoom ≤ length (now out) ⌝ }
     ensures { λ r. ⌜ Placed (endOf accepted refused) at (now (out .entry)) (now (out .exit)) r ⌝ }
 {
     let put = listing::write_end(out, at, accepted, refused);
@@ -175,7 +225,7 @@ fn put_end(out: &mut [u8], at: usize, accepted: u32, refused: u32) -> usize
 
 // Writes the only line of a tape that is too long.
 fn put_too_long(out: &mut [u8], at: usize) -> usize
-    requires { ⌜ at + 128 ≤ length (now out) ⌝ }
+    requires { ⌜ at + lineRoom ≤ length (now out) ⌝ }
     ensures { λ r. ⌜ Placed tooLong at (now (out .entry)) (now (out .exit)) r ⌝ }
 {
     let put = listing::write_too_long(out, at);
@@ -239,7 +289,7 @@ fn counted(mut tally: Tally, answer: Answer, next: usize) -> Tally
 
 // The line of a command with this reply, and the tally after it.
 fn told(tape: &[u8], tally: Tally, reply: Reply, next: usize, out: &mut [u8], at: usize) -> Turn
-    requires { ⌜ at + 128 ≤ length (now out) ⌝ }
+    requires { ⌜ at + lineRoom ≤ length (now out) ⌝ }
     ensures { λ r. ⌜ Told (lineOf (tally .number) (getD (now (tape .entry)) (tally .place) 0) reply)
         (countedTally tally (reply .answer) next) at (now (out .entry)) (now (out .exit)) r ⌝ }
 {
@@ -252,7 +302,7 @@ fn told(tape: &[u8], tally: Tally, reply: Reply, next: usize, out: &mut [u8], at
 
 // The last line of a tape that was run, and the tally after it.
 fn last(tally: Tally, out: &mut [u8], at: usize) -> Turn
-    requires { ⌜ at + 128 ≤ length (now out) ⌝ }
+    requires { ⌜ at + lineRoom ≤ length (now out) ⌝ }
     ensures { λ r. ⌜ Told (endOf (tally .accepted) (tally .refused)) (closedTally tally) at (now (out .entry)) (now (out .exit)) r ⌝ }
 {
     let written = put_end(out, at, tally.accepted, tally.refused);
@@ -262,7 +312,7 @@ fn last(tally: Tally, out: &mut [u8], at: usize) -> Turn
 
 // The only line of a tape that is too long, and the tally after it.
 fn too_long(tally: Tally, out: &mut [u8], at: usize) -> Turn
-    requires { ⌜ at + 128 ≤ length (now out) ⌝ }
+    requires { ⌜ at + lineRoom ≤ length (now out) ⌝ }
     ensures { λ r. ⌜ Told tooLong (closedTally tally) at (now (out .entry)) (now (out .exit)) r ⌝ }
 {
     let written = put_too_long(out, at);
@@ -271,16 +321,21 @@ fn too_long(tally: Tally, out: &mut [u8], at: usize) -> Turn
 }
 
 // Runs the tape on from a session: whole lines into the buffer, as long as there is room for any line and one to come. A caller runs
-// until the session is over, and prints what was written each time. The ring is large: in the loop it goes into the call alone.
+// until the session is over, and prints what was written each time. The ring is large: the loop lends its parts to the call.
 pub fn run(tape: &[u8], session: Session, out: &mut [u8]) -> Progress
     ensures { λ r. ⌜ Ran (now (tape .entry)) session (now (out .entry)) (now (out .exit)) r ⌝ }
 {
-    let mut ring = session.ring;
+    let ring = session.ring;
+    let mut head = ring.head;
+    let mut slots = ring.slots;
+    let mut lines = ring.lines;
+    let mut offers = ring.offers;
+    let mut carried = ring.carried;
     let mut turn = first(session);
     while !turn.tally.over {
         let tally = turn.tally;
         let at = turn.written;
-        if out.len() - at < LINE_ROOM {
+        if out.len() - at < listing::LINE_ROOM {
             break;
         }
         if LONGEST_TAPE < tape.len() {
@@ -292,10 +347,16 @@ pub fn run(tape: &[u8], session: Session, out: &mut [u8]) -> Progress
         match answer {
             ReadAnswer::Read { next } => {
                 let command = reading.command;
-                let stepped = call(ring, command);
-                let after = stepped.ring;
-                ring = after;
-                let reply = stepped.reply;
+                let called = call(
+                    head,
+                    &mut slots,
+                    &mut lines,
+                    &mut offers,
+                    &mut carried,
+                    command,
+                );
+                head = called.head;
+                let reply = called.reply;
                 turn = told(tape, tally, reply, next, out, at);
             }
             ReadAnswer::End => {
@@ -307,5 +368,12 @@ pub fn run(tape: &[u8], session: Session, out: &mut [u8]) -> Progress
             }
         }
     }
-    finish(ring, turn)
+    let after = Ring {
+        head,
+        slots,
+        lines,
+        offers,
+        carried,
+    };
+    finish(after, turn)
 }

@@ -1,7 +1,11 @@
--- The proofs of the ring's functions, and the lemmas that they share.
+-- The proofs about the definitions of specs/.
+pub mod Decides
 pub mod Loops
-pub mod Cells
+pub mod Zeros
+pub mod RecordBytes
 pub mod Marks
+pub mod Table
+pub mod Way
 pub mod View
-pub mod Clauses
-pub mod Exact
+pub mod Accepted
+pub mod Passes

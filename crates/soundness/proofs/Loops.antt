@@ -1,83 +1,84 @@
--- What the test of a call that was refused or granted says, and the laws of a loop that answers `allBelow n f`: it stops with `false`
--- at a number that fails, or goes on and keeps `false`; what passed below i and at i passes below i + 1. Assumes nothing.
+-- A loop that goes over all its places and counts the wrong ones, or joins its cells by "or": what it has found is 0 exactly when the
+-- statement holds of every place passed. Assumes nothing.
 use Prim.Native.Nat.{ℕ, zero, suc, _+_, _≤_, _<_}
-use mathlib.Core.Path.{_≡_, refl, sym, _∙_}
-use mathlib.Core.Bool.{Bool, true, false, not, _&&_, false≢true}
+use mathlib.Core.Path.{_≡_, refl}
+use native.Mathlib.Nat.{not-suc-le-zero}
 use native.Mathlib.Numerals.{add-one}
-use native.Mathlib.Nat.{le-antisymm, not-suc-le-zero}
 use native.Mathlib.Omega.{arith}
-use mathlib.Core.List.{List, [], _∷_}
-use lib.ListN.{length, getD}
-use borrow.Author.Tests.{not-true, not-false}
-use Rattle.network.specs.Counting.{allBelow, sum}
-use Rattle.network.proofs.Cases.{by-test, by-same, both-ways}
-use Rattle.network.proofs.Tests.{all-below}
-use Rattle.soundness.specs.Marks.{Passed}
+use lib.Dec.{eqb}
+use borrow.Author.Tests.{eqb-true, eq-eqb}
+use Rattle.network.specs.Counting.{sum}
+use Rattle.network.proofs.Cases.{by-same}
+use Rattle.soundness.specs.Decides.{Decides}
 
-pub refused : {r e : Bool} → r ≡ e → not r ≡ true → e ≡ false
-refused {r} same said = sym same ∙ not-true r said
+pub record Found (P : ℕ → Type 0) (found i : ℕ) : Type 0 where
+  pub right : found ≡ 0 → (j : ℕ) → j < i → P j
+  pub none : ((j : ℕ) → j < i → P j) → found ≡ 0
 
-pub granted : {r e : Bool} → r ≡ e → not r ≡ false → e ≡ true
-granted {r} same said = sym same ∙ not-false r said
+module _ {P : ℕ → Type 0} where
+  pub found-start : Found P 0 0
+  found-start = record { right = λ e j l. absurd (not-suc-le-zero l); none = λ all. refl }
 
--- two tests that pass in the same cases are the same
-pub same-test : {a b : Bool} → (a ≡ true → b ≡ true) → (b ≡ true → a ≡ true) → a ≡ b
-same-test {a} {b} there back =
-    by-test a (λ e. e ∙ sym (there e)) (λ e. by-test b (λ h. both-ways (back h) e) (λ h. e ∙ sym h))
+  -- a turn, by whether the place is right
+  pub found-turn : {found after i : ℕ} → Found P found i → (after ≡ 0 → (found ≡ 0) × P i) → (found ≡ 0 → P i → after ≡ 0) →
+      Found P after (i + 1)
+  found-turn {found} {after} {i} before is-right is-none =
+      record {
+        right = λ e j l.
+            by-same j i (λ same. rw same (is-right e .1)) (λ other. before .right (is-right e .0) j (omega arith));
+        none = λ all. is-none (before .none (λ j l. all j (omega arith))) (all i (omega arith));
+      }
 
-pub and-true : (b : Bool) → b ≡ (b && true)
-and-true true = refl
-and-true false = refl
+  -- the end
+  pub found-all : (n : ℕ) {found i : ℕ} → Found P found i → n ≡ i → Decides (eqb found 0) ((j : ℕ) → j < n → P j)
+  found-all n {found} whole end =
+      rw end (record { holds = λ e. whole .right (eqb-true found 0 e); passes = λ all. eq-eqb found 0 (whole .none all) })
 
-module _ (f : ℕ → Bool) where
-  pub none-passed : allBelow 0 f ≡ true
-  unfolding allBelow
-  none-passed = refl
+-- the wrong places counted, below n
+pub record Counting (P : ℕ → Type 0) (n wrong i : ℕ) : Type 0 where
+  pub within : i ≤ n
+  pub few : wrong ≤ i
+  pub found : Found P wrong i
 
-  pub one-more : (i : ℕ) → allBelow i f ≡ true → f i ≡ true → allBelow (i + 1) f ≡ true
-  unfolding allBelow
-  one-more i all here = rw (add-one, all, here)
+module _ {P : ℕ → Type 0} {n : ℕ} where
+  pub counting-start : Counting P n 0 0
+  counting-start = record { within = omega arith; few = omega arith; found = found-start }
 
-  pub one-fails : (n i : ℕ) → i < n → f i ≡ false → allBelow n f ≡ false
-  one-fails n i inside fails =
-      by-test (allBelow n f) (λ all. both-ways (all-below n f all i inside) fails) (λ e. e)
+  module _ {wrong i : ℕ} (before : Counting P n wrong i) (inside : i < n) where
+    pub counting-right : P i → Counting P n wrong (i + 1)
+    counting-right here =
+        record { within = omega arith; few = omega arith; found = found-turn (before .found) (λ e. (e, here)) (λ e p. e) }
 
-  -- a loop that goes on and keeps what it found
-  pub kept-right : {found : Bool} (i : ℕ) → found ≡ allBelow i f → f i ≡ true → found ≡ allBelow (i + 1) f
-  unfolding allBelow
-  kept-right i all here = rw (add-one, here) (all ∙ and-true (allBelow i f))
+    pub counting-wrong : (P i → ⊥) → Counting P n (wrong + 1) (i + 1)
+    counting-wrong wrong-here =
+        record {
+          within = omega arith;
+          few = omega arith;
+          found = found-turn (before .found) (λ e. absurd (omega arith)) (λ e p. absurd (wrong-here p));
+        }
 
-  pub kept-wrong : (i : ℕ) → f i ≡ false → false ≡ allBelow (i + 1) f
-  kept-wrong i here = sym (one-fails (i + 1) i (omega arith) here)
-
-  -- the loop came to its end
-  pub all-passed : (n i : ℕ) → i ≤ n → n ≤ i → allBelow i f ≡ true → allBelow n f ≡ true
-  all-passed n i most least all = rw (← le-antisymm most least) all
-
--- within a list it does not matter what is read beyond its end
-pub getD-within {ℓ} : {A : Type ℓ} (xs : List A) (i : ℕ) (d e : A) → i < length xs → getD xs i d ≡ getD xs i e
-getD-within [] i d e l = absurd (not-suc-le-zero l)
-getD-within (x ∷ xs) zero d e l = refl
-getD-within (x ∷ xs) (suc i) d e l = getD-within xs i d e (omega arith)
+  pub counting-end : {wrong i : ℕ} → Counting P n wrong i → n ≤ i → Decides (eqb wrong 0) ((j : ℕ) → j < n → P j)
+  counting-end whole end = found-all n (whole .found) (omega arith)
 
 -- a loop that adds up, at its start and in a turn
 pub sum-start : (f : ℕ → ℕ) → sum 0 f ≡ 0
 unfolding sum
 sum-start f = refl
 
-pub sum-more : (f : ℕ → ℕ) (i : ℕ) → sum (i + 1) f ≡ sum i f + f i
+pub sum-turn : {total : ℕ} (f : ℕ → ℕ) (i : ℕ) → total ≡ sum i f → total + f i ≡ sum (i + 1) f
 unfolding sum
-sum-more f i = rw add-one
+sum-turn f i e = rw (add-one, e)
 
--- a pass that stopped leaves what it leaves
-pub stopped : {expected : Bool} {left marks : List ℕ} → expected ≡ false → Passed false expected left marks
-stopped e = record { right = sym e; whole = λ said. absurd (false≢true said) }
+-- a first part of a sum, and one term beyond it, are at most the whole; where the rest is nothing it is the whole
 
--- sums over a first part: it is at most the whole, one term more included, and the whole where the rest is nothing
-pub sum-prefix : (m n : ℕ) (f : ℕ → ℕ) → n < m → sum n f + f n ≤ sum m f
+pub sum-most : (m n : ℕ) (f : ℕ → ℕ) → n ≤ m → sum n f ≤ sum m f
 unfolding sum
-sum-prefix zero n f l = absurd (not-suc-le-zero l)
-sum-prefix (suc m) n f l = by-same n m (λ e. rw e (omega arith)) (λ d. omega (arith, sum-prefix m n f (omega arith)))
+sum-most zero n f l = let e : n ≡ 0 = omega arith in rw e (omega arith)
+sum-most (suc m) n f l = by-same n (suc m) (λ e. rw e (omega arith)) (λ d. omega (arith, sum-most m n f (omega arith)))
+
+pub sum-rest : (m n i : ℕ) (f : ℕ → ℕ) → n ≤ i → i < m → sum n f + f i ≤ sum m f
+unfolding sum
+sum-rest m n i f l inside = omega (arith, sum-most i n f l, sum-most m (suc i) f inside)
 
 pub sum-beyond : (m n : ℕ) (f : ℕ → ℕ) → n ≤ m → ((p : ℕ) → n ≤ p → p < m → f p ≡ 0) → sum m f ≡ sum n f
 unfolding sum

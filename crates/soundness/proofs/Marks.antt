@@ -1,186 +1,145 @@
--- Laws of a pass that marks each channel at most once, over plain lists. A turn of its loop (`Passing`); and the key: where the pass
--- goes to the end, a channel's mark has risen by as many times as it stands in the cells (`marked-counts`), and it goes to the end
--- where every cell is used and fits and no channel that fits would be counted twice (`once-passes`). Assumes nothing.
-use Prim.Native.Nat.{ℕ, zero, suc, pred, _+_, _*_, _-_, _≤_, _<_}
-use mathlib.Core.Path.{_≡_, refl, sym, ap, _∙_}
-use mathlib.Core.Bool.{Bool, true, false}
-use mathlib.Core.List.{List, [], _∷_, map}
+-- Laws of the pass over the rows (specs/Marks), as its loops need them: a cell, a row, several rows, all rows. What the table says after
+-- the pass is in Table. Assumes nothing.
+use Prim.Native.Nat.{ℕ, zero, suc, pred, _+_, _-_, _≤_, _<_, min}
+use mathlib.Core.Path.{_≡_, refl, _∙_}
+use mathlib.Core.Bool.{true, false}
+use mathlib.Core.List.{List, _∷_}
+use mathlib.Core.Option.{Option, none, some}
 use native.Mathlib.Numerals.{add-one}
 use native.Mathlib.Nat.{not-suc-le-zero}
 use native.Mathlib.Omega.{arith}
-use lib.Dec.{ltb, eqb}
-use lib.ListN.{length, getD, take, drop, set, length-set}
-use lib.Seq.{drop-cons, drop-length, getD-set-same, getD-set-other}
-use borrow.Author.Tests.{lt-ltb, eq-eqb}
-use Rattle.network.specs.Counting.{one, sum, allOf, weigh, count}
-use Rattle.network.specs.Layout.{row}
-use Rattle.network.proofs.Cases.{by-same, and-left, and-right, and-both}
-use Rattle.network.proofs.Counting.{count-same, count-other}
-use Rattle.network.proofs.Tests.{reads}
-use Rattle.soundness.specs.Marks.{cellFits, passes, marked, marksAfter, Passed}
-use Rattle.soundness.specs.Test.{rowFits}
-use Rattle.soundness.proofs.Loops.{sum-prefix}
+use mathlib.Core.Logic.{_≢_}
+use borrow.Author.Tests.{eq-eqb, ne-eqb}
+use lib.ListN.{length, getD, take, drop, set, replicate, length-set}
+use lib.Seq.{drop-cons, drop-length}
+use Rattle.network.proofs.Cases.{by-same, by-test, both-ways}
+use Rattle.network.specs.Layout.{channelRoom, rowLength, row}
+use Rattle.network.proofs.Counting.{sum-le, sum-ones}
+use Rattle.soundness.specs.Decides.{Decides}
+use Rattle.soundness.specs.Marks.{inBuffer, inLine, fresh, mark, cellsInUse, markRow, markRows, markAll, Marked}
+use Rattle.soundness.proofs.Decides.{restated, decides-less, decides-most, decides-same, decides-and}
 
--- a turn of the loop
+-- a cell
 
-pub record Passing (fit : ℕ → Bool) (cells seen₀ : List ℕ) (i : ℕ) (seen : List ℕ) : Type 0 where
+pub record Fresh (c : ℕ) (seen : List ℕ) (cell : ℕ) : Type 0 where
+  pub used : 0 < cell
+  pub known : cell ≤ c
+  pub first : getD seen (pred cell) 0 ≡ 0
+
+pub decides-fresh : (c : ℕ) (seen : List ℕ) (cell : ℕ) → Decides (fresh c seen cell) (Fresh c seen cell)
+unfolding fresh
+decides-fresh c seen cell =
+    restated (λ f. record { used = f .0 .0; known = f .0 .1; first = f .1 }) (λ f. ((f .used, f .known), f .first))
+    (decides-and (decides-and (decides-less _ _) (decides-most _ _)) (decides-same _ _))
+
+module _ (c place : ℕ) (x : ℕ) (xs seen : List ℕ) where
+  pub mark-fresh : Fresh c seen x → mark c place (x ∷ xs) seen ≡ mark c place xs (set seen (pred x) place)
+  unfolding mark
+  mark-fresh f = rw (decides-fresh c seen x .passes f)
+
+  pub mark-stale : (Fresh c seen x → ⊥) → mark c place (x ∷ xs) seen ≡ none
+  unfolding mark
+  mark-stale stale =
+      by-test (fresh c seen x) (λ e. absurd (stale (decides-fresh c seen x .holds e))) (λ e. rw e)
+
+-- a turn of the loop over the cells of a row: the cells to come do from the table as it is what all do from the table at first
+
+pub record Passing (c place : ℕ) (cells seen₀ : List ℕ) (i : ℕ) (seen : List ℕ) : Type 0 where
   pub within : i ≤ length cells
   pub long : length seen ≡ length seen₀
-  pub answer : passes fit cells seen₀ ≡ passes fit (drop i cells) seen
-  pub marks : marked cells seen₀ ≡ marked (drop i cells) seen
+  pub same : mark c place cells seen₀ ≡ mark c place (drop i cells) seen
 
-module _ (fit : ℕ → Bool) (cells seen₀ : List ℕ) where
-  pub passing-start : Passing fit cells seen₀ 0 seen₀
-  passing-start = record { within = omega arith; long = refl; answer = refl; marks = refl }
+module _ (c place : ℕ) (cells seen₀ : List ℕ) where
+  pub passing-start : Passing c place cells seen₀ 0 seen₀
+  passing-start = record { within = omega arith; long = refl; same = refl }
 
-  pub passing-stops : (i : ℕ) (seen : List ℕ) → Passing fit cells seen₀ i seen → i < length cells →
-      cellFits fit seen (getD cells i 0) ≡ false → passes fit cells seen₀ ≡ false
-  unfolding passes
-  passing-stops i seen p inside e = p .answer ∙ rw (drop-cons cells i 0 inside, e)
+  module _ {i : ℕ} {seen : List ℕ} (p : Passing c place cells seen₀ i seen) where
+    pub passing-stops : i < length cells → (Fresh c seen (getD cells i 0) → ⊥) → mark c place cells seen₀ ≡ none
+    passing-stops inside stale =
+        p .same ∙ rw (drop-cons cells i 0 inside) (mark-stale c place (getD cells i 0) (drop (suc i) cells) seen stale)
 
-  pub passing-more : (i : ℕ) (seen : List ℕ) → Passing fit cells seen₀ i seen → i < length cells →
-      cellFits fit seen (getD cells i 0) ≡ true → Passing fit cells seen₀ (i + 1) (set seen (getD cells i 0 - 1) 1)
-  unfolding passes marked
-  passing-more i seen p inside e =
-      let k : getD cells i 0 - 1 ≡ pred (getD cells i 0) = omega arith in
-      record {
-        within = omega (arith, p .within);
-        long = length-set seen (getD cells i 0 - 1) 1 ∙ p .long;
-        answer = p .answer ∙ rw (drop-cons cells i 0 inside, e, add-one, k);
-        marks = p .marks ∙ rw (drop-cons cells i 0 inside, add-one, k);
-      }
+    pub passing-more : i < length cells → Fresh c seen (getD cells i 0) →
+        Passing c place cells seen₀ (i + 1) (set seen (getD cells i 0 - 1) place)
+    passing-more inside f =
+        let k : getD cells i 0 - 1 ≡ pred (getD cells i 0) = omega arith in
+        record {
+          within = omega arith;
+          long = length-set seen (getD cells i 0 - 1) place ∙ p .long;
+          same =
+              p .same
+              ∙ rw (drop-cons cells i 0 inside, add-one, k) (mark-fresh c place (getD cells i 0) (drop (suc i) cells) seen f);
+        }
 
-  pub passing-end : (i : ℕ) (seen : List ℕ) → Passing fit cells seen₀ i seen → length cells ≤ i →
-      (passes fit cells seen₀ ≡ true) × (marked cells seen₀ ≡ seen)
-  unfolding passes marked
-  passing-end i seen p l =
-      let e : i ≡ length cells = omega (arith, p .within) in
-      (p .answer ∙ rw (e, drop-length), p .marks ∙ rw (e, drop-length))
+    pub passing-end : length cells ≤ i → mark c place cells seen₀ ≡ some seen
+    unfolding mark
+    passing-end l =
+        let e : i ≡ length cells = omega (arith, p .within) in
+        p .same ∙ rw (e, drop-length)
 
--- what a used cell that fits says
-pub cell-parts : (fit : ℕ → Bool) (seen : List ℕ) (x : ℕ) → cellFits fit seen x ≡ true →
-    (0 < x) × (fit (pred x) ≡ true) × (getD seen (pred x) 0 ≡ 0)
-unfolding cellFits
-cell-parts fit seen x e = let parts = simp reads at e in (parts .0 .0, parts .0 .1, parts .1)
+-- the two answers of a pass
 
--- counts
+pub says-passed : {left : List ℕ} {table : Option (List ℕ)} → table ≡ some left → Marked true left table
+says-passed e = record { passed = λ h. e; stopped = λ h. both-ways refl h }
 
-module _ (fit : ℕ → Bool) (size : ℕ) (below : (k : ℕ) → fit k ≡ true → k < size) where
-  pub marked-counts : (xs seen : List ℕ) → size ≤ length seen → passes fit xs seen ≡ true → (k : ℕ) →
-      getD (marked xs seen) k 0 ≡ getD seen k 0 + count k (map pred xs)
-  unfolding passes marked weigh
-  marked-counts [] seen long e k = omega arith
-  marked-counts (x ∷ xs) seen long e k =
-      let here = cell-parts fit seen x (and-left (cellFits fit seen x) _ e) in
-      let rest = marked-counts xs (set seen (pred x) 1) (rw length-set long) (and-right (cellFits fit seen x) _ e) k in
-      by-same (pred x) k
-      (λ same.
-      let raised : getD (set seen (pred x) 1) k 0 ≡ 1 =
-      rw (← same) (getD-set-same seen (pred x) 1 0 (omega (arith, below (pred x) (here .1)))) in
-      let blank : getD seen k 0 ≡ 0 = rw (← same) (here .2) in
-      let counted : one (eqb (pred x) k) ≡ 1 = rw (← same) (count-same (pred x)) in
-      omega arith)
-      (λ other.
-      let kept : getD (set seen (pred x) 1) k 0 ≡ getD seen k 0 = getD-set-other seen (pred x) k 1 0 (λ e. other (sym e)) in
-      omega (arith, count-other (pred x) k other))
+pub says-stopped : {left : List ℕ} {table : Option (List ℕ)} → table ≡ none → Marked false left table
+says-stopped e = record { passed = λ h. both-ways h refl; stopped = λ h. e }
 
--- a row's pass, at other words for the same
+-- a row
 
-pub row-passed : (fit : ℕ → Bool) {r : Bool} {left : List ℕ} (used used' : ℕ) (cells cells' seen seen' : List ℕ) →
-    used ≡ used' → cells ≡ cells' → seen ≡ seen' →
-    Passed r (rowFits fit used cells seen) left (marked (take used cells) seen) →
-    Passed r (rowFits fit used' cells' seen') left (marked (take used' cells') seen')
-row-passed fit used used' cells cells' seen seen' u x s p = rw (← u, ← x, ← s) p
+pub in-use-most : (cells : List ℕ) → cellsInUse cells ≤ rowLength
+unfolding cellsInUse
+in-use-most cells =
+    omega (arith, sum-le rowLength (λ i. min 1 (getD cells i 0)) (λ i. 1) (λ i l. omega arith), sum-ones rowLength)
 
-pub marks-more : (cells : ℕ → List ℕ) (p : ℕ) (seen : List ℕ) → marksAfter cells (p + 1) seen ≡ marked (cells p) (marksAfter cells p seen)
-unfolding marksAfter
-marks-more cells p seen = rw add-one
+module _ (c place used : ℕ) (cells seen : List ℕ) where
+  pub row-right : cellsInUse cells ≡ used → markRow c place used cells seen ≡ mark c place (take used cells) seen
+  unfolding markRow
+  row-right e = rw (eq-eqb _ used e)
 
-pub marks-start : (cells : ℕ → List ℕ) (seen : List ℕ) → marksAfter cells 0 seen ≡ seen
-unfolding marksAfter
-marks-start cells seen = refl
+  pub row-wrong : cellsInUse cells ≢ used → markRow c place used cells seen ≡ none
+  unfolding markRow
+  row-wrong d = rw (ne-eqb _ used d)
 
--- the part of the cells that is lent as node p's row
-pub part-is-row : (cells : List ℕ) (p : ℕ) → take (64 * p + 64 - 64 * p) (drop (64 * p) cells) ≡ row cells p
-unfolding row
-part-is-row cells p =
-    let long : 64 * p + 64 - 64 * p ≡ 64 = omega arith in
-    ap (λ n. take n (drop (64 * p) cells)) long
+-- several rows
 
-pub marked-length : (xs seen : List ℕ) → length (marked xs seen) ≡ length seen
-unfolding marked
-marked-length [] seen = refl
-marked-length (x ∷ xs) seen = marked-length xs (set seen (pred x) 1) ∙ length-set seen (pred x) 1
+module _ (c first : ℕ) (used cells seen : List ℕ) where
+  abbrev pub rowAfter : ℕ → List ℕ → Option (List ℕ)
+  rowAfter p = markRow c (first + p) (getD used p 0) (row rowLength cells p)
 
--- what the pass has shown of each cell
-pub passes-parts : (fit : ℕ → Bool) (xs seen : List ℕ) → passes fit xs seen ≡ true →
-    (allOf (λ x. ltb 0 x) xs ≡ true) × (allOf fit (map pred xs) ≡ true)
-unfolding passes allOf
-passes-parts fit [] seen e = (refl, refl)
-passes-parts fit (x ∷ xs) seen e =
-    let here = cell-parts fit seen x (and-left (cellFits fit seen x) _ e) in
-    let rest = passes-parts fit xs (set seen (pred x) 1) (and-right (cellFits fit seen x) _ e) in
-    (and-both (ltb 0 x) _ (lt-ltb 0 x (here .0)) (rest .0), and-both (fit (pred x)) _ (here .1) (rest .1))
+  pub rows-start : markRows 0 c first used cells seen ≡ some seen
+  unfolding markRows
+  rows-start = refl
 
-module _ (fit : ℕ → Bool) (size : ℕ) (below : (k : ℕ) → fit k ≡ true → k < size) where
-  pub once-passes : (xs seen : List ℕ) → size ≤ length seen → allOf (λ x. ltb 0 x) xs ≡ true → allOf fit (map pred xs) ≡ true →
-      ((k : ℕ) → k < size → getD seen k 0 + count k (map pred xs) ≤ 1) → passes fit xs seen ≡ true
-  unfolding passes allOf cellFits weigh
-  once-passes [] seen long used fits once = refl
-  once-passes (x ∷ xs) seen long used fits once =
-      let u = and-left (ltb 0 x) (allOf (λ y. ltb 0 y) xs) used in
-      let f = and-left (fit (pred x)) (allOf fit (map pred xs)) fits in
-      let blank : getD seen (pred x) 0 ≡ 0 = omega (arith, once (pred x) (below (pred x) f), count-same (pred x)) in
-      let rest : (k : ℕ) → k < size → getD (set seen (pred x) 1) k 0 + count k (map pred xs) ≤ 1 =
-      λ k l.
-      by-same (pred x) k
-      (λ same.
-      let raised : getD (set seen (pred x) 1) k 0 ≡ 1 = rw (← same) (getD-set-same seen (pred x) 1 0 (omega (arith, below (pred x) f))) in
-      let counted : one (eqb (pred x) k) ≡ 1 = rw (← same) (count-same (pred x)) in
-      omega (arith, once k l))
-      (λ other.
-      let kept : getD (set seen (pred x) 1) k 0 ≡ getD seen k 0 = getD-set-other seen (pred x) k 1 0 (λ e. other (sym e)) in
-      omega (arith, once k l)) in
-      rw (u, f, eq-eqb _ _ blank)
-      (once-passes xs (set seen (pred x) 1) (rw length-set long) (and-right (ltb 0 x) _ used) (and-right (fit (pred x)) _ fits) rest)
+  pub rows-more : (p : ℕ) {before : List ℕ} {after : Option (List ℕ)} → markRows p c first used cells seen ≡ some before →
+      rowAfter p before ≡ after → markRows (p + 1) c first used cells seen ≡ after
+  unfolding markRows
+  rows-more p e f = rw (add-one p, e) f
 
--- several rows, each with its own test
+  pub rows-stop : (n p : ℕ) → p < n → markRows (p + 1) c first used cells seen ≡ none → markRows n c first used cells seen ≡ none
+  unfolding markRows
+  rows-stop zero p l e = absurd (not-suc-le-zero l)
+  rows-stop (suc n) p l e =
+      by-same p n (λ same. rw (add-one, same) at e) (λ other. rw (rows-stop n p (omega arith) e))
 
-module _ (fit : ℕ → ℕ → Bool) (size : ℕ) (below : (p k : ℕ) → fit p k ≡ true → k < size) (cells : ℕ → List ℕ) (seen : List ℕ)
-    (long : size ≤ length seen) where
-  abbrev pub counts : ℕ → ℕ → ℕ
-  counts k p = count k (map pred (cells p))
+-- all rows
 
-  abbrev pub rowPasses : ℕ → Bool
-  rowPasses p = passes (fit p) (cells p) (marksAfter cells p seen)
+module _ (n c : ℕ) (used waiting slots lines : List ℕ) where
+  abbrev pub afterBuffers : Option (List ℕ)
+  afterBuffers = markRows n c inBuffer used slots (replicate channelRoom 0)
 
-  pub marks-length : (n : ℕ) → length (marksAfter cells n seen) ≡ length seen
-  unfolding marksAfter
-  marks-length zero = refl
-  marks-length (suc n) = marked-length (cells n) (marksAfter cells n seen) ∙ marks-length n
+  pub all-stop : afterBuffers ≡ none → markAll n c used waiting slots lines ≡ none
+  unfolding markAll
+  all-stop e = rw e
 
-  -- the marks are the counts
-  pub marks-counts : (n : ℕ) → ((p : ℕ) → p < n → rowPasses p ≡ true) → (k : ℕ) →
-      getD (marksAfter cells n seen) k 0 ≡ getD seen k 0 + sum n (counts k)
-  unfolding marksAfter sum
-  marks-counts zero passed k = omega arith
-  marks-counts (suc n) passed k =
-      let before = marks-counts n (λ p l. passed p (omega arith)) k in
-      let last =
-      marked-counts (fit n) size (below n) (cells n) (marksAfter cells n seen) (rw (marks-length n) long) (passed n (omega arith)) k in
-      omega arith
+  pub all-more : {before : List ℕ} → afterBuffers ≡ some before →
+      markAll n c used waiting slots lines ≡ markRows n c inLine waiting lines before
+  unfolding markAll
+  all-more e = rw e
 
-  -- rows whose cells are used and fit pass where no channel is counted twice
-  pub rows-pass : (most n : ℕ) → n ≤ most →
-      ((p : ℕ) → p < most → (allOf (λ x. ltb 0 x) (cells p) ≡ true) × (allOf (fit p) (map pred (cells p)) ≡ true)) →
-      ((k : ℕ) → k < size → getD seen k 0 + sum most (counts k) ≤ 1) →
-      (p : ℕ) → p < n → rowPasses p ≡ true
-  rows-pass most zero few fits once p l = absurd (not-suc-le-zero l)
-  rows-pass most (suc n) few fits once p l =
-      let before = rows-pass most n (omega arith) fits once in
-      by-same p n
-      (λ e.
-      rw e
-      (once-passes (fit n) size (below n) (cells n) (marksAfter cells n seen) (rw (marks-length n) long) (fits n few .0) (fits n few .1)
-      (λ k inside. omega (arith, marks-counts n before k, sum-prefix most n (counts k) few, once k inside))))
-      (λ d. before p (omega arith))
+-- a table is the one that there is
+
+pub no-table : {table : Option (List ℕ)} {m : List ℕ} → table ≡ none → table ≡ some m → ⊥
+no-table none-is some-is = let never : _≡_ {A = ℕ} 0 1 = cc in omega arith
+
+pub same-table : {table : Option (List ℕ)} {a b : List ℕ} → table ≡ some a → table ≡ some b → a ≡ b
+same-table first second = cc

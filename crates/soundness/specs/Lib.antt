@@ -1,3 +1,4 @@
--- The test for a sound ring as it is coded, in steps.
+-- What the test for a sound ring decides.
+pub mod Decides
 pub mod Marks
-pub mod Test
+pub mod Fits

@@ -7,7 +7,6 @@ use mathlib.Core.List.{List}
 use lib.Dec.{eqb, ltb}
 use lib.ListN.{length, getD, drop}
 use Rattle.refusal.specs.Number.{numberOf}
-use Rattle.refusal.specs.declared.Refusal.{Refusal}
 use Rattle.refusal.specs.declared.Refusal.the-variants.{UnknownCommand, CommandCut, PlaceBeyondEnd, NoRoomToWrite}
 use Rattle.tape.specs.declared.Action.the-variants.{Start}
 use Rattle.tape.specs.declared.Command.{Command}

@@ -6,7 +6,7 @@ use refusal::Refusal;
 use wire::fields;
 ghost use mathlib.Core.Path.{_≡_};
 ghost use Prim.Native.Nat.{_≤_};
-ghost use lib.ListN.{length, drop};
+ghost use lib.ListN.{length};
 ghost use Rattle.wire.specs.Bytes.{overwritten};
 ghost use Rattle.tape.specs.Table.{rowOf, codeOf, bytesOf, width, bareOf};
 ghost use Rattle.tape.specs.Tape.{readAt, writeAt, afterWrite, withNone};

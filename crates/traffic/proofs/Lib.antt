@@ -1,3 +1,3 @@
--- The laws of enter and move.
+-- The laws of the calls of this crate.
 pub mod Entries
 pub mod Move

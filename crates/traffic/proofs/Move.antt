@@ -1,67 +1,62 @@
--- The call "move" on a sound ring in memory. The first cell of the buffer is a message under way on a channel of the ring; each refusal
--- and each of the three ways it goes (taken, delivered, passed on) by the tests that the code makes. Assumes nothing.
-use Prim.Native.Nat.{ℕ, suc, _-_, _*_, _≤_, _<_}
+-- The call "move" at a node of a sound started ring. The first cell of the buffer is a message under way on a channel of the ring; each
+-- refusal and each of the three ways it goes (taken, delivered, passed on) by the tests that the code makes. Assumes nothing.
+use Prim.Native.Nat.{ℕ, suc, _+_, _-_, _*_, _≤_, _<_, min}
 use mathlib.Core.Path.{_≡_, refl, sym, ap, subst, _∙_}
 use mathlib.Core.Logic.{_≢_}
-use mathlib.Core.Bool.{true, false}
+use mathlib.Core.Bool.{true, false, cond}
 use mathlib.Core.List.{List, _∷_}
-use mathlib.Core.Option.{none, some}
+use mathlib.Core.Option.{Option, none, some}
 use native.Mathlib.Omega.{arith}
-use lib.ListN.{length, length-set}
-use lib.Seq.{getD-set-same, getD-set-other}
+use lib.Dec.{eqb}
+use lib.ListN.{length, set, length-set}
+use lib.Seq.{getD-set-same, getD-set-other, set-set}
 use borrow.Author.Tests.{lt-ltb, le-ltb, eq-eqb, ne-eqb}
-use Rattle.refusal.specs.declared.Refusal.the-variants.{NotStarted, NoSuchNode, BufferEmpty, NextBufferFull, TurnMarkSet}
+use Rattle.refusal.specs.declared.Refusal.the-variants.{BufferEmpty, NextBufferFull, TurnMarkSet}
 use Rattle.batch.specs.declared.BatchRecord.{BatchRecord}
+use Rattle.batch.specs.Blank.{noRecord}
+use Rattle.wire.specs.Record.{recordLength, recordIn, RecordFits}
 use Rattle.hops.specs.Hops.{next}
 use Rattle.hops.proofs.Laws.{next-below}
+use Rattle.network.specs.declared.Head.{Head}
+use Rattle.network.specs.declared.HeadStep.{HeadStep}
 use Rattle.network.specs.declared.Ring.{Ring}
+use Rattle.network.specs.Answers.{eventReply, stepOf}
 use Rattle.network.specs.Counting.{count}
-use Rattle.network.specs.Network.{Network, NodeState, ChannelState, Phase, resting, asking, ready, answering, nodeCount, channelCount, noNode, node, channel, nextNode, moving, targetOf, target, withChannel}
+use Rattle.network.specs.Network.{Network, NodeState, ChannelState, Phase, resting, asking, ready, answering, nodeCount, channelCount, noNode, noChannel, node, channel, nextNode, moving, targetOf, target, withChannel}
 use Rattle.network.specs.Calls.{done, delivered, refused, accepted, Arrival, taken, passing, arrived, arrivalOf, arrival, respond, takeRequest, deliver, leave, pass, handOver, moveFirst}
 use Rattle.network.specs.Calls
 use Rattle.network.specs.Runs
-use Rattle.network.specs.Layout.{ringLimits, rowLength, row, cellsOf, offeredFlag, offerCell, holdNode, holdChannel, view, hold, soundRing, heldOutcome, callRing}
+use Rattle.network.specs.Layout.{ringLimits, nodeRoom, channelRoom, rowLength, cellRoom, row, padded, cellsOf, phaseCode, offeredFlag, offerBytes, carriedBytes, recordAt, view, hold, heldOutcome, callRing, withNodes, withDeliveries, stepIn}
+use Rattle.network.specs.Sound.{lastCount}
 use Rattle.network.proofs.Cases.{by-list, by-option, by-phase, by-same, both-ways}
 use Rattle.network.proofs.Counting.{count-same, weigh-cons}
 use Rattle.network.proofs.Tables.{netOf, stateOf}
 use Rattle.network.proofs.Clauses.{sound-started}
 use Rattle.network.proofs.Accepted.{first-moving}
-use Rattle.network.proofs.Memory.{Fits, held-buffer, sound-ring-parts}
-use Rattle.network.proofs.Changes.{fits-with-node}
-use Rattle.change.specs.Flat.{targetAt, nodeAt, channelAt, left, passed, phased, handedOut, responded}
-use Rattle.change.specs.Known.{AtNode, Leaves, Takes, Delivers, Passes, CanRespond}
-use Rattle.change.proofs.Opening.{sound-called, opened}
-use Rattle.change.proofs.FlatLaws.{node-read, first-cell, left-held, passed-held, phased-held, handed-out-held, responded-held, responded-room}
-use Rattle.change.proofs.Reading.{here, node-here, channel-here, accepted-fits, empty-length, asking-code, answering-code, none-flag, marked, unmarked}
-
-module _ (ring : Ring) (ok : soundRing ring ≡ true) (p : ℕ) where
-  pub move-idle : ring .started ≡ 0 → callRing (Runs.move p) ring ≡ refused NotStarted
-  unfolding Calls.move
-  move-idle still = rw (sound-called (Runs.move p) ring ok, opened ring ok .idle still)
-
-  pub move-nowhere : ring .started ≢ 0 → ring .«node_count» ≤ p → callRing (Runs.move p) ring ≡ refused NoSuchNode
-  unfolding Calls.move
-  move-nowhere going beyond =
-      let o = opened ring ok in
-      rw (sound-called (Runs.move p) ring ok, o .running going, o .node-count, le-ltb _ _ beyond)
+use Rattle.network.proofs.Memory.{Fits, OfferFits, CarriedFits, HeldNode, HeldChannel, SoundRing, record-kept, held-node}
+use Rattle.network.proofs.Changes.{fits-with-node, fits-with-channel}
+use Rattle.change.specs.Flat.{appended, shifted, recorded, capacityAt, usedAt, waitingAt, markAt, phaseAt, offeredAt, senderAt, targetAt, markAfter, joinedHead, leftHead, phasedHead, offeredHead, left, passed, phased, withdrawn, responded, handedOut}
+use Rattle.change.specs.Answered.{doneStep}
+use Rattle.change.specs.Known.{CanRespond, AtNode, Leaves, Takes, Delivers, Passes}
+use Rattle.change.proofs.Opening.{sound-called, accepts, accepted-fits, marked, unmarked}
+use Rattle.change.proofs.FlatLaws.{first-cell, left-held, passed-held, phased-held, withdrawn-held, handed-out-held, responded-held, responded-room}
+use Rattle.change.proofs.Reading.{node-known, node-there, node-within, node-numbers, node-running, empty-length, asking-code, none-flag}
 
 module _ {ring : Ring} {p : ℕ} (h : AtNode ring p) where
   called : Calls.move p (view ring) ≡ moveFirst p (node (view ring) p .buffer) (view ring)
   unfolding Calls.move
-  called = rw (opened ring (h .ok) .running (h .going), lt-ltb _ _ (here h))
+  called = rw (node-running h, lt-ltb _ _ (node-there h))
 
   in-memory : callRing (Runs.move p) ring ≡ heldOutcome (Calls.move p (view ring))
   in-memory = sound-called (Runs.move p) ring (h .ok)
 
-  holds : nodeAt ring p .held ≡ length (node (view ring) p .buffer)
-  holds = ap (λ d. d .held) (node-here ring (h .ok) p (here h))
-
-  pub move-empty : nodeAt ring p .held ≡ 0 → callRing (Runs.move p) ring ≡ refused BufferEmpty
-  move-empty e = in-memory ∙ ap heldOutcome called ∙ rw (empty-length (node (view ring) p .buffer) (sym holds ∙ e))
+  pub move-empty : usedAt (ring .head) p ≡ 0 → callRing (Runs.move p) ring ≡ refused BufferEmpty
+  move-empty e =
+      in-memory ∙ ap heldOutcome called ∙ rw (empty-length (node (view ring) p .buffer) (sym (node-numbers h .used) ∙ e))
 
   -- the first cell of the buffer is there
-  pub first-within : rowLength * p < 1024
-  first-within = omega (arith, opened ring (h .ok) .layout .nodes-within, h .there)
+  pub first-within : rowLength * p < cellRoom
+  first-within = omega (arith, node-within h)
 
 -- the first of the buffer of p: its channel k, and those behind it
 record FirstOf (σ : Network) (p cell : ℕ) : Type 0 where
@@ -73,7 +68,8 @@ record FirstOf (σ : Network) (p cell : ℕ) : Type 0 where
   moves : moving (channel σ k .phase) ≡ true
 
 -- the node that takes a message under way is its target
-target-here : (s : ChannelState) → moving (s .phase) ≡ true → targetAt (holdChannel s) ≡ targetOf s (s .phase)
+target-here : (s : ChannelState) → moving (s .phase) ≡ true →
+    cond (eqb (phaseCode (s .phase)) 1) (s .sender) (s .receiver) ≡ targetOf s (s .phase)
 target-here s m =
     by-phase (s .phase) (λ f. both-ways m (ap moving f)) (λ f. rw f) (λ f. both-ways m (ap moving f)) (λ x f. rw f)
 
@@ -90,21 +86,23 @@ module _ {ring : Ring} {p cell : ℕ} (h : Leaves ring p cell) where
   abbrev at : AtNode ring p
   at = h .at-node
 
+  abbrev known : SoundRing ring
+  known = node-known at
+
   first : FirstOf σ p cell
   first =
-      let o = opened ring (at .ok) in
-      let t = sound-started ringLimits σ (sound-ring-parts ring (at .ok) .1) (o .running (at .going)) .tables in
-      by-list (node σ p .buffer) (λ e. absurd (h .some (holds at ∙ ap length e))) λ k ks e.
-      let cells : row (ring .slots) p ≡ cellsOf (k ∷ ks) =
-      ap (λ r. row (r .slots) p) (sym (o .held)) ∙ held-buffer σ p (omega (arith, o .fits .nodes-fit, here at)) ∙ ap cellsOf e in
+      let t = sound-started ringLimits σ (known .sound) (node-running at) .tables in
+      by-list (node σ p .buffer) (λ e. absurd (h .some (node-numbers at .used ∙ ap length e))) λ k ks e.
+      let front : row rowLength (ring .slots) p ≡ padded rowLength (cellsOf (k ∷ ks)) =
+      node-numbers at .buffer-row ∙ ap (λ xs. padded rowLength (cellsOf xs)) e in
       let standing : 0 < count k (node σ p .buffer) = rw (e, weigh-cons) (omega (arith, count-same k)) in
       record {
         k = k;
         ks = ks;
         buffer-is = e;
-        cell-is = h .first ∙ first-cell (ring .slots) p k ks cells;
-        known = o .facts .each-node p (here at) .in-buffer k standing .0;
-        moves = first-moving (netOf σ) (stateOf σ) t p k ks (here at) e;
+        cell-is = h .first ∙ first-cell (ring .slots) p k ks front;
+        known = known .facts .each-node p (node-there at) .in-buffer k standing .0;
+        moves = first-moving (netOf σ) (stateOf σ) t p k ks (node-there at) e;
       }
 
   abbrev k : ℕ
@@ -120,23 +118,34 @@ module _ {ring : Ring} {p cell : ℕ} (h : Leaves ring p cell) where
   pub cell-used : 0 < cell
   cell-used = omega (arith, first .cell-is)
 
-  pub cell-within : cell - 1 < 64
-  cell-within = omega (arith, first .cell-is, first .known, opened ring (at .ok) .fits .channels-fit)
+  pub cell-within : cell - 1 < channelRoom
+  cell-within = omega (arith, first .cell-is, first .known, known .fits .channels-fit)
 
-  pub leave-room : (p < 16) × (0 < nodeAt ring p .held)
-  leave-room = (omega (arith, opened ring (at .ok) .layout .nodes-within, at .there), omega (arith, h .some))
+  pub leave-room : (p < nodeRoom) × (0 < usedAt (ring .head) p)
+  leave-room = (node-within at, omega (arith, h .some))
 
-  pub slots-whole : length (ring .slots) ≡ 1024
-  slots-whole = opened ring (at .ok) .layout .slots-whole
+  pub slots-whole : length (ring .slots) ≡ cellRoom
+  slots-whole = known .holds .slots-whole
 
-  reads-as : channelAt ring (cell - 1) ≡ holdChannel (channel σ k)
-  reads-as = ap (channelAt ring) number ∙ channel-here ring (at .ok) k (first .known)
+  -- the channel's numbers, read at cell - 1
+  channel-is : HeldChannel ring σ (cell - 1)
+  channel-is = known .holds .channels (cell - 1) cell-within
 
-  target-is : targetAt (channelAt ring (cell - 1)) ≡ target σ k
-  target-is = ap targetAt reads-as ∙ target-here (channel σ k) (first .moves)
+  here-is : channel σ (cell - 1) ≡ channel σ k
+  here-is = ap (channel σ) number
 
-  next-is : nextNode σ p ≡ next (ring .«node_count») p
-  next-is = ap (λ n. next n p) (opened ring (at .ok) .node-count)
+  phase-is : phaseAt (ring .head) (cell - 1) ≡ phaseCode (channel σ k .phase)
+  phase-is = channel-is .phase ∙ ap (λ s. phaseCode (s .phase)) here-is
+
+  target-is : targetAt (ring .head) (cell - 1) ≡ target σ k
+  target-is =
+      (λ i. cond (eqb (phase-is i) 1)
+      ((channel-is .sender ∙ ap (λ s. s .sender) here-is) i)
+      ((channel-is .receiver ∙ ap (λ s. s .receiver) here-is) i))
+      ∙ target-here (channel σ k) (first .moves)
+
+  next-is : nextNode σ p ≡ next (ring .head .«node_count») p
+  next-is = ap (λ n. next n p) (sym (known .holds .node-count))
 
   -- the ring without the message
   abbrev behind : Network
@@ -144,22 +153,41 @@ module _ {ring : Ring} {p cell : ℕ} (h : Leaves ring p cell) where
 
   behind-held : left ring p ≡ hold behind
   behind-held =
-      let o = opened ring (at .ok) in
-      ap (λ r. left r p) (sym (o .held)) ∙ left-held σ (o .fits) p (here at) k ks (first .buffer-is)
+      ap (λ r. left r p) (sym (known .laid-out)) ∙ left-held σ (known .fits) p (node-there at) k ks (first .buffer-is)
 
   behind-fits : Fits behind
   behind-fits =
-      let o = opened ring (at .ok) in
-      fits-with-node σ (o .fits) p ks _ _
-      (omega (arith, o .fits .buffer-fits p (here at), ap length (first .buffer-is)))
-      (o .fits .line-fits p (here at))
+      fits-with-node σ (known .fits) p ks _ _ (node-there at)
+      (omega (arith, known .fits .buffer-fits p (node-there at), ap length (first .buffer-is)))
+      (known .fits .line-fits p (node-there at))
 
   -- the call, once it is known how the message arrives
   handed : {w : Arrival} → arrival σ (nextNode σ p) k ≡ w → Calls.move p σ ≡ handOver p (nextNode σ p) k ks w σ
   handed e = called at ∙ rw (first .buffer-is, e)
 
   sender-there : channel σ k .sender < nodeCount behind
-  sender-there = rw length-set (opened ring (at .ok) .facts .each-channel k (first .known) .sender-below)
+  sender-there = rw length-set (known .facts .each-channel k (first .known) .sender-below)
+
+-- a record that is offered or carried is the one that the code reads
+
+offer-is : (o : Option BatchRecord) (bytes : List ℕ) → OfferFits o → bytes ≡ padded recordLength (offerBytes o) → offeredFlag o ≢ 0 →
+    o ≡ some (recordIn bytes)
+offer-is none bytes fit e has = absurd (has refl)
+offer-is (some x) bytes fit e has = ap some (sym (ap recordIn e ∙ record-kept x fit))
+
+carried-is : (f : Phase) (bytes : List ℕ) → CarriedFits f → bytes ≡ padded recordLength (carriedBytes f) → moving f ≡ true →
+    phaseCode f ≢ 1 → f ≡ answering (recordIn bytes)
+carried-is resting bytes fit e m other = both-ways m refl
+carried-is asking bytes fit e m other = absurd (other refl)
+carried-is ready bytes fit e m other = both-ways m refl
+carried-is (answering x) bytes fit e m other = ap answering (sym (ap recordIn e ∙ record-kept x fit))
+
+-- a response does not see the offer that it takes out
+respond-after : (σ : Network) (k : ℕ) (f : Phase) (x : BatchRecord) → k < channelCount σ →
+    respond k x (withChannel k f none σ) ≡ respond k x σ
+respond-after σ k f x l =
+    let s : ChannelState = record { sender = channel σ k .sender; receiver = channel σ k .receiver; phase = f; offer = none } in
+    rw (getD-set-same (σ .channels) k s noChannel l, set-set (σ .channels) k s)
 
 -- a request is taken
 
@@ -168,7 +196,7 @@ module _ {ring : Ring} {p cell : ℕ} (t : Takes ring p cell) where
   from = t .leaves
 
   is-asking : channel (view ring) (k from) .phase ≡ asking
-  is-asking = asking-code _ (sym (ap (λ ch. ch .phase) (reads-as from)) ∙ t .asks)
+  is-asking = asking-code _ (sym (phase-is from) ∙ t .asks)
 
   arrives-taken : arrival (view ring) (nextNode (view ring) p) (k from) ≡ taken
   unfolding arrival
@@ -179,12 +207,14 @@ module _ {ring : Ring} {p cell : ℕ} (t : Takes ring p cell) where
   takes : Calls.move p (view ring) ≡ accepted done (takeRequest (k from) (channel (view ring) (k from) .offer) (behind from))
   takes = handed from arrives-taken
 
+  flag-is : offeredAt (ring .head) (cell - 1) ≡ offeredFlag (channel (view ring) (k from) .offer)
+  flag-is = channel-is from .offered ∙ ap (λ s. offeredFlag (s .offer)) (here-is from)
+
   -- no record is offered: the channel becomes ready
-  pub take-ready : channelAt ring (cell - 1) .offered ≡ 0 →
+  take-ready : offeredAt (ring .head) (cell - 1) ≡ 0 →
       callRing (Runs.move p) ring ≡ accepted done (phased (left ring p) (cell - 1) 2)
   take-ready bare =
-      let no-offer : channel (view ring) (k from) .offer ≡ none =
-      none-flag _ (sym (ap (λ ch. ch .offered) (reads-as from)) ∙ bare) in
+      let no-offer : channel (view ring) (k from) .offer ≡ none = none-flag _ (sym flag-is ∙ bare) in
       let memory : phased (left ring p) (cell - 1) 2 ≡ hold (withChannel (k from) ready none (behind from)) =
       ap (λ r. phased r (cell - 1) 2) (behind-held from)
       ∙ ap (λ j. phased (hold (behind from)) j 2) (number from)
@@ -195,36 +225,94 @@ module _ {ring : Ring} {p cell : ℕ} (t : Takes ring p cell) where
       ∙ ap (accepted done) (sym memory)
 
   -- a record is offered: it goes out as the response
-  module _ (has : channelAt ring (cell - 1) .offered ≢ 0) where
+  module _ (has : offeredAt (ring .head) (cell - 1) ≢ 0) where
     abbrev x : BatchRecord
-    x = channelAt ring (cell - 1) .offer
+    x = recordAt (ring .offers) (cell - 1)
 
     is-offered : channel (view ring) (k from) .offer ≡ some x
     is-offered =
-        by-option (channel (view ring) (k from) .offer)
-        (λ e. absurd (has (ap (λ ch. ch .offered) (reads-as from) ∙ ap offeredFlag e)))
-        (λ y e. e ∙ ap some (sym (ap (λ ch. ch .offer) (reads-as from) ∙ ap offerCell e)))
+        offer-is _ _ (known from .fits .offer-fits (k from) (first from .known))
+        (channel-is from .offer-row ∙ ap (λ s. padded recordLength (offerBytes (s .offer))) (here-is from))
+        (λ e. has (flag-is ∙ e))
+
+    x-fits : RecordFits x
+    x-fits = subst OfferFits is-offered (known from .fits .offer-fits (k from) (first from .known))
 
     responds : Calls.move p (view ring) ≡ accepted done (respond (k from) x (behind from))
     responds = takes ∙ ap (λ o. accepted done (takeRequest (k from) o (behind from))) is-offered
 
-    response-fits : Fits (respond (k from) x (behind from))
-    response-fits = accepted-fits ring (at from .ok) (Runs.move p) responds
+    -- the ring without the offer
+    abbrev bare : Network
+    bare = withChannel (k from) (channel (behind from) (k from) .phase) none (behind from)
 
-    pub take-room : CanRespond (left ring p) (cell - 1)
+    bare-held : withdrawn (left ring p) (cell - 1) ≡ hold bare
+    bare-held =
+        ap (λ r. withdrawn r (cell - 1)) (behind-held from)
+        ∙ ap (withdrawn (hold (behind from))) (number from)
+        ∙ withdrawn-held (behind from) (behind-fits from) (k from) (first from .known)
+
+    bare-fits : Fits bare
+    bare-fits =
+        fits-with-channel (behind from) (behind-fits from) (k from) _ none (first from .known) tt
+        (behind-fits from .carried-fits (k from) (first from .known))
+
+    still-there : k from < channelCount bare
+    still-there = rw length-set (first from .known)
+
+    bare-channel : channel bare (k from)
+        ≡ record {
+          sender = channel (view ring) (k from) .sender;
+          receiver = channel (view ring) (k from) .receiver;
+          phase = channel (view ring) (k from) .phase;
+          offer = none;
+        }
+    bare-channel = getD-set-same (behind from .channels) (k from) _ noChannel (first from .known)
+
+    bare-sender : channel bare (k from) .sender < nodeCount bare
+    bare-sender = rw bare-channel (sender-there from)
+
+    response-is : respond (k from) x bare ≡ respond (k from) x (behind from)
+    response-is = respond-after (behind from) (k from) _ x (first from .known)
+
+    response-fits : Fits (respond (k from) x bare)
+    response-fits = subst Fits (sym response-is) (accepted-fits ring (at from .ok) (Runs.move p) responds)
+
+    take-room : CanRespond (withdrawn (left ring p) (cell - 1) .head) (cell - 1)
     take-room =
-        rw (behind-held from, number from)
-        (responded-room (behind from) (behind-fits from) (k from) (first from .known) x (sender-there from) response-fits)
+        subst (λ r. CanRespond (r .head) (cell - 1)) (sym bare-held)
+        (rw (number from)
+        (responded-room bare bare-fits (k from) still-there x x-fits (ap (λ s. s .offer) bare-channel) bare-sender response-fits))
 
-    pub take-responds : callRing (Runs.move p) ring ≡ accepted done (responded (left ring p) (cell - 1) x)
+    take-responds : callRing (Runs.move p) ring ≡ accepted done (responded (withdrawn (left ring p) (cell - 1)) (cell - 1) x)
     take-responds =
         in-memory (at from)
         ∙ ap heldOutcome responds
         ∙ ap (accepted done)
         (sym
-        (ap (λ r. responded r (cell - 1) x) (behind-held from)
-        ∙ ap (λ j. responded (hold (behind from)) j x) (number from)
-        ∙ responded-held (behind from) (behind-fits from) (k from) (first from .known) x (sender-there from) response-fits))
+        (ap (λ r. responded r (cell - 1) x) bare-held
+        ∙ ap (λ j. responded (hold bare) j x) (number from)
+        ∙ responded-held bare bare-fits (k from) still-there x x-fits (ap (λ s. s .offer) bare-channel) bare-sender response-fits
+        ∙ ap hold response-is))
+
+  -- the same of what the code made, one change after the other: h is the head without the message, and so on
+
+  module _ {h : Head} {slots : List ℕ} (eh : h ≡ leftHead (ring .head) p) (es : slots ≡ shifted (ring .slots) p) where
+    pub ready-made : {s : HeadStep} → offeredAt h (cell - 1) ≡ 0 → s ≡ doneStep (phasedHead h (cell - 1) 2) →
+        stepIn s slots (ring .lines) (ring .offers) (ring .carried) ≡ stepOf ring (callRing (Runs.move p) ring)
+    ready-made bare e = rw (e, es, eh) (accepts ring (take-ready (rw eh at bare)) refl)
+
+    module _ (has : offeredAt h (cell - 1) ≢ 0) where
+      pub can-respond : CanRespond (offeredHead h (cell - 1) 0) (cell - 1)
+      can-respond = rw eh (take-room (λ e. has (rw eh e)))
+
+      pub response-made : {r : Head} {x : BatchRecord} {lines offers carried : List ℕ} {s : HeadStep} →
+          x ≡ recordAt (ring .offers) (cell - 1) → offers ≡ recorded (ring .offers) (cell - 1) noRecord →
+          r ≡ joinedHead (phasedHead (offeredHead h (cell - 1) 0) (cell - 1) 3) (senderAt h (cell - 1)) →
+          lines ≡ appended (ring .lines) (senderAt h (cell - 1)) (waitingAt h (senderAt h (cell - 1))) (cell - 1 + 1) →
+          carried ≡ recorded (ring .carried) (cell - 1) x → s ≡ doneStep r →
+          stepIn s slots lines offers carried ≡ stepOf ring (callRing (Runs.move p) ring)
+      response-made ex eo er el ec e =
+          rw (e, er, el, ec, eo, ex, es, eh) (accepts ring (take-responds (λ bare. has (rw eh bare))) refl)
 
 -- a response is delivered
 
@@ -233,12 +321,14 @@ module _ {ring : Ring} {p cell : ℕ} (t : Delivers ring p cell) where
   leaving = t .leaves
 
   abbrev record-carried : BatchRecord
-  record-carried = channelAt ring (cell - 1) .carried
+  record-carried = recordAt (ring .carried) (cell - 1)
 
   is-answering : channel (view ring) (k leaving) .phase ≡ answering record-carried
   is-answering =
-      answering-code _ (first leaving .moves) (λ e. t .answers (ap (λ ch. ch .phase) (reads-as leaving) ∙ e))
-      ∙ ap answering (sym (ap (λ ch. ch .carried) (reads-as leaving)))
+      carried-is _ _ (known leaving .fits .carried-fits (k leaving) (first leaving .known))
+      (channel-is leaving .carried-row ∙ ap (λ s. padded recordLength (carriedBytes (s .phase))) (here-is leaving))
+      (first leaving .moves)
+      (λ e. t .answers (phase-is leaving ∙ e))
 
   arrives-delivered : arrival (view ring) (nextNode (view ring) p) (k leaving) ≡ arrived record-carried
   unfolding arrival
@@ -246,7 +336,7 @@ module _ {ring : Ring} {p cell : ℕ} (t : Delivers ring p cell) where
       let same : nextNode (view ring) p ≡ target (view ring) (k leaving) = next-is leaving ∙ sym (t .arrives) ∙ target-is leaving in
       rw (eq-eqb _ _ same, is-answering)
 
-  pub deliver-done : callRing (Runs.move p) ring
+  deliver-done : callRing (Runs.move p) ring
       ≡ accepted (delivered (cell - 1) record-carried) (handedOut (left ring p) (cell - 1))
   deliver-done =
       let memory : handedOut (left ring p) (cell - 1) ≡ hold (deliver (k leaving) (behind leaving)) =
@@ -256,6 +346,16 @@ module _ {ring : Ring} {p cell : ℕ} (t : Delivers ring p cell) where
       in-memory (at leaving)
       ∙ ap heldOutcome (handed leaving arrives-delivered)
       ∙ (λ i. accepted (delivered (sym (number leaving) i) record-carried) (sym memory i))
+
+  pub delivery-made : {h : Head} {x : BatchRecord} {slots carried : List ℕ} {d : ℕ} →
+      h ≡ leftHead (ring .head) p → slots ≡ shifted (ring .slots) p → x ≡ recordAt (ring .carried) (cell - 1) →
+      carried ≡ recorded (ring .carried) (cell - 1) noRecord → d ≡ min (h .deliveries + 1) lastCount →
+      stepIn (record { head = withDeliveries (phasedHead h (cell - 1) 0) d; reply = eventReply (delivered (cell - 1) x) }) slots
+      (ring .lines)
+      (ring .offers)
+      carried
+      ≡ stepOf ring (callRing (Runs.move p) ring)
+  delivery-made eh es ex ec ed = rw (ed, ec, ex, es, eh) (ap (stepOf ring) (sym deliver-done))
 
 -- anything else passes on
 
@@ -276,36 +376,38 @@ module _ {ring : Ring} {p q cell : ℕ} (t : Passes ring p q cell) where
   q-is = t .next-is ∙ sym (next-is goes)
 
   q-there : q < nodeCount (view ring)
-  q-there = rw q-is (next-below (nodeCount (view ring)) p (here (at goes)))
+  q-there = rw q-is (next-below (nodeCount (view ring)) p (node-there (at goes)))
 
-  pub pass-within : q < 16
-  pass-within = omega (arith, q-there, opened ring (at goes .ok) .fits .nodes-fit)
+  pub pass-within : q < nodeRoom
+  pass-within = omega (arith, q-there, known goes .fits .nodes-fit)
 
   arrives-passing : arrival (view ring) (nextNode (view ring) p) (k goes) ≡ passing
   unfolding arrival
   arrives-passing =
-      let other : nextNode (view ring) p ≢ target (view ring) (k goes) =
-      λ e. t .elsewhere (target-is goes ∙ sym e ∙ sym q-is) in
+      let other : nextNode (view ring) p ≢ target (view ring) (k goes) = λ e. t .elsewhere (target-is goes ∙ sym e ∙ sym q-is) in
       rw (ne-eqb _ _ other) (passing-by (channel (view ring) (k goes) .phase))
 
   passes : Calls.move p (view ring) ≡ handOver p q (k goes) (ks goes) passing (view ring)
   passes = handed goes arrives-passing ∙ ap (λ r. handOver p r (k goes) (ks goes) passing (view ring)) (sym q-is)
 
-  reads-next : nodeAt ring q ≡ holdNode (node (view ring) q)
-  reads-next = node-here ring (at goes .ok) q q-there
+  next-numbers : HeldNode ring (view ring) q
+  next-numbers = known goes .holds .nodes q pass-within
 
-  pub pass-full : nodeAt ring q .slots ≤ nodeAt ring q .held → callRing (Runs.move p) ring ≡ refused NextBufferFull
-  pass-full full = in-memory (at goes) ∙ ap heldOutcome passes ∙ rw (le-ltb _ _ (rw reads-next at full))
+  pub pass-full : capacityAt (ring .head) q ≤ usedAt (ring .head) q → callRing (Runs.move p) ring ≡ refused NextBufferFull
+  pass-full full =
+      in-memory (at goes)
+      ∙ ap heldOutcome passes
+      ∙ rw (le-ltb _ _ (rw (next-numbers .capacity, next-numbers .used) at full))
 
-  module _ (free : nodeAt ring q .held < nodeAt ring q .slots) where
+  module _ (free : usedAt (ring .head) q < capacityAt (ring .head) q) where
     slot : length (node (view ring) q .buffer) < node (view ring) q .slots
-    slot = rw reads-next at free
+    slot = rw (next-numbers .capacity, next-numbers .used) at free
 
-    pub pass-marked : nodeAt ring q .mark ≢ 0 → callRing (Runs.move p) ring ≡ refused TurnMarkSet
+    pub pass-marked : markAt (ring .head) q ≢ 0 → callRing (Runs.move p) ring ≡ refused TurnMarkSet
     pass-marked set =
         in-memory (at goes)
         ∙ ap heldOutcome passes
-        ∙ rw (lt-ltb _ _ slot, marked (node (view ring) q .mark) (λ e. set (ap (λ d. d .mark) reads-next ∙ e)))
+        ∙ rw (lt-ltb _ _ slot, marked (node (view ring) q .mark) (λ e. set (next-numbers .mark ∙ e)))
 
     still : q < nodeCount (behind goes)
     still = rw length-set q-there
@@ -315,17 +417,16 @@ module _ {ring : Ring} {p q cell : ℕ} (t : Passes ring p q cell) where
         omega (
           arith,
           slot,
-          left-shorter (view ring) p q (k goes) (ks goes) (here (at goes)) (first goes .buffer-is),
-          opened ring (at goes .ok) .facts .each-node q q-there .slot-limit,
+          left-shorter (view ring) p q (k goes) (ks goes) (node-there (at goes)) (first goes .buffer-is),
+          known goes .facts .each-node q q-there .slot-limit,
         )
 
-    pub pass-room : (q < 16) × (nodeAt (left ring p) q .held < 64)
-    pass-room = (
-      pass-within,
-      subst (λ r. nodeAt r q .held < 64) (sym (behind-held goes)) (rw (node-read (behind goes) (behind-fits goes) q still) room),
-    )
+    pass-room : usedAt (left ring p .head) q < rowLength
+    pass-room =
+        subst (λ r. usedAt (r .head) q < rowLength) (sym (behind-held goes))
+        (rw (held-node (behind goes) q pass-within .used) room)
 
-    pub pass-done : nodeAt ring q .mark ≡ 0 → callRing (Runs.move p) ring ≡ accepted done (passed (left ring p) q cell)
+    pass-done : markAt (ring .head) q ≡ 0 → callRing (Runs.move p) ring ≡ accepted done (passed (left ring p) q cell)
     pass-done clear =
         let memory : passed (left ring p) q cell ≡ hold (pass q (k goes) (behind goes)) =
         ap (λ r. passed r q cell) (behind-held goes)
@@ -333,5 +434,16 @@ module _ {ring : Ring} {p q cell : ℕ} (t : Passes ring p q cell) where
         ∙ passed-held (behind goes) (behind-fits goes) q still (k goes) room in
         in-memory (at goes)
         ∙ ap heldOutcome passes
-        ∙ rw (lt-ltb _ _ slot, unmarked (node (view ring) q .mark) (sym (ap (λ d. d .mark) reads-next) ∙ clear))
+        ∙ rw (lt-ltb _ _ slot, unmarked (node (view ring) q .mark) (sym (next-numbers .mark) ∙ clear))
         (ap (accepted done) (sym memory))
+
+    module _ {h : Head} (eh : h ≡ leftHead (ring .head) p) where
+      pub passing-room : usedAt h q < rowLength
+      passing-room = rw eh pass-room
+
+      pub passing-made : {slots before : List ℕ} {mark : ℕ} {s : HeadStep} → markAt (ring .head) q ≡ 0 →
+          before ≡ shifted (ring .slots) p → slots ≡ appended before q (usedAt h q) cell →
+          mark ≡ markAfter (waitingAt h q) (markAt h q) →
+          s ≡ doneStep (withNodes h (set (h .used) q (usedAt h q + 1)) (h .waiting) (set (h .marks) q mark)) →
+          stepIn s slots (ring .lines) (ring .offers) (ring .carried) ≡ stepOf ring (callRing (Runs.move p) ring)
+      passing-made clear eb es em e = rw (e, em, es, eb, eh) (accepts ring (pass-done clear) refl)

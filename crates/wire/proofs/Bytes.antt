@@ -1,6 +1,6 @@
 -- Bytes stay bytes: a part of them, one list of them after another, and those that a number is written as.
 -- A number that is read from a place and written again is the bytes there. Assumes nothing.
-use Prim.Native.Nat.{ℕ, zero, suc, _+_, _/_, _^_, _<_, _≤_}
+use Prim.Native.Nat.{ℕ, zero, suc, _+_, _^_, _<_, _≤_}
 use mathlib.Core.Path.{_≡_}
 use mathlib.Core.List.{List, [], _∷_, _++_}
 use native.Mathlib.Omega.{arith}
@@ -28,7 +28,7 @@ pub little-bytes : (n x : ℕ) → Bytes (little n x)
 unfolding little
 little-bytes zero x i = lit< tt
 little-bytes (suc n) x zero = omega arith
-little-bytes (suc n) x (suc i) = little-bytes n (x / 256) i
+little-bytes (suc n) x (suc i) = little-bytes n _ i
 
 module _ (at n : ℕ) (bytes : List ℕ) (b : Bytes bytes) (h : at + n ≤ length bytes) where
   part-bytes : Bytes (part at n bytes)

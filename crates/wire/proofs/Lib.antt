@@ -4,3 +4,4 @@ pub mod Bytes
 pub mod Signed
 pub mod Buffer
 pub mod Record
+pub mod Good

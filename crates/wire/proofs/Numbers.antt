@@ -1,7 +1,7 @@
 -- Laws of numbers as bytes, over the count of bytes: what `little` writes `number` reads, and the other way, and both go
 -- part by part. Two's complement likewise. Assumes nothing.
 use Prim.Native.Nat.{ℕ, zero, suc, _+_, _-_, _*_, _/_, _%_, _^_, _<_, _≤_}
-use mathlib.Core.Path.{_≡_, refl, sym, ap, _∙_}
+use mathlib.Core.Path.{_≡_, refl, ap}
 use mathlib.Core.Bool.{Bool, true, false, cond}
 use mathlib.Core.List.{List, [], _∷_, _++_}
 use native.Mathlib.Nat.{zero-add, suc-add, mul-assoc, pow-suc, pow-succ', one-le-pow, div-div-eq-div-mul, div-one, div-lt-iff-lt-mul}
@@ -10,16 +10,10 @@ use lib.Arith.{mod-mul, digits-div, digits-mod}
 use lib.Dec.{ltb, lit<}
 use lib.IntN.{ℤ, pos, negsuc}
 use lib.Signed.{mag}
-use lib.ListN.{length, getD, take, drop, length-take, length-drop}
+use lib.ListN.{length, getD, take, drop, length-drop}
 use lib.Seq.{take-add, drop-drop, drop-cons, length-take-le}
-use borrow.Author.Tests.{lt-ltb, le-ltb, ltb-true, ltb-false}
+use borrow.Author.Tests.{lt-ltb, le-ltb}
 use Rattle.wire.specs.Bytes.{little, number, part, numberAt, twos, signed, Bytes, Ends}
-
--- the bytes of a number are as many as asked
-pub length-little : (n x : ℕ) → length (little n x) ≡ n
-unfolding little
-length-little zero x = refl
-length-little (suc n) x = ap suc (length-little n (x / 256))
 
 -- m low bytes, then n more
 pub little-add : (m n x : ℕ) → little m (x % 256 ^ m) ++ little n (x / 256 ^ m) ≡ little (m + n) x

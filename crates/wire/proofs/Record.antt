@@ -1,4 +1,5 @@
--- A record as bytes: it takes as many as it should, what was written is read, and what was read is written. Assumes nothing.
+-- A record as bytes: what was written is read, and what was read is written; it takes as many bytes as it should, and all are bytes.
+-- Assumes nothing.
 use Prim.Native.Nat.{_<_, _^_}
 use mathlib.Core.Path.{_≡_, refl}
 use mathlib.Core.List.{_++_}
@@ -14,28 +15,6 @@ use Rattle.wire.specs.Bytes.{little, numberAt, twos, Bytes}
 use Rattle.wire.specs.Record.{recordLength, recordBytes, recordIn, RecordFits, RecordReadsBack, RecordWritesBack}
 use Rattle.wire.proofs.Numbers.{number-little, signed-twos, twos-signed}
 use Rattle.wire.proofs.Bytes.{bytes-append, little-bytes, part-written, part-bound}
-
-pub length-record : {r : BatchRecord} → RecordFits r → length (recordBytes r) ≡ recordLength
-unfolding little recordBytes
-length-record f = rw (f .name-width)
-
-pub record-bytes : {r : BatchRecord} → RecordFits r → Bytes (recordBytes r)
-unfolding recordBytes
-record-bytes {r} f =
-    let number = little 4 (r .batch .0) in
-    let vessel = little 1 (r .vessel) in
-    let degrees = little 2 (twos (r .temperature)) in
-    let size = little 1 (r .«name_length») in
-    bytes-append (number ++ vessel ++ degrees ++ size) (r .name)
-    (bytes-append (number ++ vessel ++ degrees) size
-    (bytes-append (number ++ vessel) degrees
-    (bytes-append number vessel (little-bytes 4 _) (little-bytes 1 _)) (little-bytes 2 _)) (little-bytes 1 _))
-    (f .name)
-
--- a cell that holds no record has bytes of zero
-pub blank-record : recordBytes noRecord ≡ replicate recordLength 0
-unfolding little twos recordBytes noRecord
-blank-record = refl
 
 twos-fits : (z : ℤ) → mag z < 2 ^ 15 → twos z < 65536
 unfolding twos
@@ -72,3 +51,27 @@ record-writes-back b s h =
       ← (take-add 7 1 b),
       ← (take-add 8 nameLimit b),
     )
+
+-- ---- how many bytes, and which
+
+pub length-record : {r : BatchRecord} → RecordFits r → length (recordBytes r) ≡ recordLength
+unfolding little recordBytes
+length-record f = rw (f .name-width)
+
+pub record-bytes : {r : BatchRecord} → RecordFits r → Bytes (recordBytes r)
+unfolding recordBytes
+record-bytes {r} f =
+    let number = little 4 (r .batch .0) in
+    let vessel = little 1 (r .vessel) in
+    let degrees = little 2 (twos (r .temperature)) in
+    let size = little 1 (r .«name_length») in
+    bytes-append (number ++ vessel ++ degrees ++ size) (r .name)
+    (bytes-append (number ++ vessel ++ degrees) size
+    (bytes-append (number ++ vessel) degrees
+    (bytes-append number vessel (little-bytes 4 _) (little-bytes 1 _)) (little-bytes 2 _)) (little-bytes 1 _))
+    (f .name)
+
+-- a cell that holds no record has bytes of zero
+pub blank-record : recordBytes noRecord ≡ replicate recordLength 0
+unfolding little twos recordBytes noRecord
+blank-record = refl

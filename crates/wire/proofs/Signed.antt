@@ -1,13 +1,13 @@
 -- The machine's arithmetic on an i16, as `to_bits` and `from_bits` use it: -1 - z takes a number below 0 to one that is not, and
 -- back. `toZ w16` and `ofZ w16` are the machine's own reading of 16 bits, there and back. Assumes nothing.
 use Prim.Native.Nat.{ℕ, zero, suc, _+_, _-_, _<_, _≤_}
-use mathlib.Core.Path.{_≡_, refl, sym, ap, _∙_}
+use mathlib.Core.Path.{_≡_, refl, ap, _∙_}
 use mathlib.Core.Bool.{true, false, true≢false}
 use native.Mathlib.Omega.{arith}
 use lib.IntN.{ℤ, pos, negsuc, _-ℤ_, negℤ, predℤ, +ℤ-comm, -ℤ-one}
 use lib.Signed.{mag, ltZ}
 use mir.Syntax.{w16}
-use mir.Val.{Fits, SFits, toZ, ofZ}
+use mir.Val.{SFits, toZ, ofZ}
 use mir.Facts.{toZ-ofZ, toZ-pos}
 use borrow.Author.Tests.{le-ltb, ltb-true}
 use Rattle.wire.specs.Bytes.{twos, signed}

@@ -3,12 +3,13 @@
 // What was written is read and what was read is written (specs/Record.antt).
 pub mod fields;
 
+use batch;
 use batch::BatchNo;
 use batch::BatchRecord;
 ghost use mathlib.Core.Path.{_≡_};
 ghost use Prim.Native.Nat.{_+_, _≤_};
 ghost use lib.ListN.{length, drop};
-ghost use Rattle.batch.specs.Good.{nameLimit};
+ghost use Rattle.batch.specs.Good.{nameLimit, goodRecord};
 ghost use Rattle.wire.specs.Bytes.{part, overwritten};
 ghost use Rattle.wire.specs.Record.{recordLength, recordBytes, recordIn};
 
@@ -54,6 +55,24 @@ pub fn record_at(bytes: &[u8], place: usize) -> BatchRecord
     ensures { λ r. ⌜ r ≡ recordIn (drop place (now (bytes .entry))) ⌝ }
 {
     record_in(&bytes[place..])
+}
+
+// Whether the record that the bytes begin with is good: judged in its bytes, without making a record of them.
+pub fn record_good(bytes: &[u8]) -> bool
+    requires { ⌜ recordLength ≤ length (now bytes) ⌝ }
+    ensures { λ r. ⌜ r ≡ goodRecord (recordIn (now (bytes .entry))) ⌝ }
+{
+    let number = fields::u32_at(bytes, 0);
+    let vessel = fields::u8_at(bytes, 4);
+    let temperature = fields::i16_at(bytes, 5);
+    let name_length = fields::u8_at(bytes, 7);
+    batch::fields_good(
+        number,
+        vessel,
+        temperature,
+        name_length,
+        &bytes[8..RECORD_LENGTH],
+    )
 }
 
 // Puts the bytes of a name at the front of the bytes.

@@ -9,63 +9,65 @@ use native.Mathlib.Omega.{arith}
 use lib.Dec.{ltb}
 use lib.ListN as ListN
 use lib.ListN.{getD}
-use mir.Syntax.{w8}
-use borrow.Kind.Array.{eInt, good-length}
 use borrow.Author.Tests.{ne-eqb, not-true, not-false}
 use borrow.Author.Needs.{needs}
-use Rattle.batch.specs.Good.{nameCellsGood, isCharacter, isZero}
+use Rattle.batch.specs.Good.{nameLimit, nameCellsGood, isCharacter, isZero}
 use Rattle.batch.proofs.Name.{goodFrom, goodFrom-start, goodFrom-more, goodFrom-end}
-use Rattle.batch.proofs.Name.{CountsUp, counted, turn-wrong, turn-right, turn-end}
+use Rattle.batch.proofs.Places.{CountsUp, counted}
+use Rattle.batch.proofs.Name.{turn-wrong, turn-right, turn-end}
 use Rattle.batch.proofs.name_cells_good.Statement.{statement}
 use Rattle.batch.proofs.name_cells_good.Tie as tie
 
 abbrev Inv-loop : tie.InvT-loop
 Inv-loop length name places wrong₀ i₀ wrong i =
-    (i ≤ 32)
+    (i ≤ nameLimit)
     × (wrong ≤ i)
     × CountsUp places
     × (nameCellsGood length name ≡ (isZero wrong && goodFrom length name i))
 
 abbrev μ-loop : tie.MeasureT-loop
-μ-loop length name places wrong₀ i₀ wrong i = 32 - i
+μ-loop length name places wrong₀ i₀ wrong i = nameLimit - i
 
 loop-holds : tie.Need-loop-holds Inv-loop μ-loop
 loop-holds c = (omega arith, omega arith, counted _ refl, goodFrom-start _ _)
 
-array-read-cell : tie.Need-array-read-cell Inv-loop μ-loop
-array-read-cell c = omega arith
+shared-slice-read-cell : tie.Need-shared-slice-read-cell Inv-loop μ-loop
+shared-slice-read-cell c = omega arith
 
 array-read-cell-good : tie.Need-array-read-cell-good Inv-loop μ-loop
 array-read-cell-good c = omega arith
 
-all-cells : (c : tie.Start Inv-loop μ-loop) → ListN.length (c .args .t2) ≡ 32
-all-cells c = good-length (eInt w8) 32 (c .args .t2) _ (c .good .1 .0)
-
 -- the call judges cell i by its place
 module _ (c : tie.After-cell-good Inv-loop μ-loop) where
+  abbrev at-loop : tie.At-loop Inv-loop μ-loop
+  at-loop = c .before .before .before
+
+  abbrev start : tie.Start Inv-loop μ-loop
+  start = at-loop .before .before
+
   abbrev n : ℕ
-  n = c .before .before .before .args .length
+  n = start .args .length
 
   abbrev cells : List ℕ
-  cells = c .before .before .before .args .t2
+  cells = start .args .name .now
 
   abbrev i : ℕ
-  i = c .before .before .loop .i
+  i = at-loop .loop .i
 
   judged : c .cell-good .result ≡ cond (ltb i n) (isCharacter (getD cells i 0)) (isZero (getD cells i 0))
   judged =
       c .cell-good .ensures
       ∙ ap (λ place. cond (ltb place n) (isCharacter (getD cells i 0)) (isZero (getD cells i 0)))
-      (c .before .before .loop .inv .2 .at i (omega arith))
+      (at-loop .loop .inv .2 .at i (omega arith))
 
   abbrev later : Bool
   later = goodFrom n cells (i + 1)
 
-  turn : nameCellsGood n cells ≡ isZero (c .before .before .loop .wrong) && (c .cell-good .result && later)
+  turn : nameCellsGood n cells ≡ isZero (at-loop .loop .wrong) && (c .cell-good .result && later)
   turn =
-      c .before .before .loop .inv .3
-      ∙ ap (λ rest. isZero (c .before .before .loop .wrong) && rest)
-      (goodFrom-more n cells i (omega (arith, all-cells (c .before .before .before)))
+      at-loop .loop .inv .3
+      ∙ ap (λ rest. isZero (at-loop .loop .wrong) && rest)
+      (goodFrom-more n cells i (omega arith)
       ∙ ap (λ here. here && later) (sym judged))
 
 add-wrong : tie.Need-add-wrong Inv-loop μ-loop
@@ -79,9 +81,9 @@ loop-less c = omega arith
 
 loop-again : tie.Need-loop-again Inv-loop μ-loop
 loop-again c =
-    let wrong = c .before .before .before .loop .wrong in
+    let wrong = at-loop (c .before) .loop .wrong in
     let here = c .before .cell-good .result in
-    let placed = c .before .before .before .loop .inv .2 in
+    let placed = at-loop (c .before) .loop .inv .2 in
     ⊎-elim
     (λ w. (
       omega arith,
@@ -101,8 +103,9 @@ loop-again c =
 returns : tie.Need-returns Inv-loop μ-loop
 returns c =
     let l = c .before .loop in
-    let end : l .i ≡ ListN.length (c .before .before .args .t2) = omega (arith, all-cells (c .before .before)) in
-    sym (turn-end (isZero (l .wrong)) _ (l .inv .3) (rw end (goodFrom-end _ (c .before .before .args .t2))))
+    let cells = c .before .before .before .args .name .now in
+    let end : l .i ≡ ListN.length cells = omega arith in
+    sym (turn-end (isZero (l .wrong)) _ (l .inv .3) (rw end (goodFrom-end _ cells)))
 
 pub name-cells-good-spec : {M : Type 1} → statement M
 name-cells-good-spec =
@@ -111,7 +114,7 @@ name-cells-good-spec =
     Inv-loop
     μ-loop
     loop-holds
-    array-read-cell
+    shared-slice-read-cell
     array-read-cell-good
     (λ c κs. search needs)
     add-wrong

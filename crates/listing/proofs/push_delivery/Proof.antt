@@ -1,7 +1,6 @@
 -- `listing::push_delivery` meets its contract: any answer but a delivery appends nothing. Assumes nothing.
 use mathlib.Core.Path.{_≡_, refl}
 use mathlib.Core.List.{[], _∷_}
-use native.Mathlib.Omega.{arith}
 use types.Run.{OneOf, miss}
 use denote.Enum.Declared.{tagOf}
 use borrow.Author.Needs.{needs}
@@ -10,7 +9,7 @@ use Rattle.network.specs.declared.Answer.{Answer}
 use Rattle.network.specs.declared.Answer.the-variants.{Done, Delivered, Hops, Waiting, Refused}
 use Rattle.network.proofs.Answer.{the-type}
 use Rattle.listing.specs.Line.{deliveryOf}
-use Rattle.listing.proofs.Held.{same, up-to}
+use Rattle.listing.proofs.Appends.{nothing}
 use Rattle.listing.proofs.push_delivery.Statement.{statement}
 use Rattle.listing.proofs.push_delivery.Tie as tie
 
@@ -23,10 +22,12 @@ others (Waiting w) x k = refl
 others (Refused r) x k = refl
 
 returns : tie.Need-returns
-returns c = rw (c .before .before .answer .given .1) (c .push-record .ensures)
+returns c =
+    let pushed = c .before .before in
+    rw (pushed .before .before .before .answer .given .1) (pushed .push-record .ensures)
 
 returns-2 : tie.Need-returns-2
-returns-2 c = rw (others (c .before .args .answer) _ (c .match .keys2)) (up-to (omega arith) (same _))
+returns-2 c = rw (others (c .before .before .args .answer) _ (c .match .keys2)) nothing
 
 pub push-delivery-spec : {M : Type 1} → statement M
-push-delivery-spec = tie.close (tie.spec (λ c. search needs) (λ c κs. search needs) returns returns-2)
+push-delivery-spec = tie.close (tie.spec (λ c. search needs) (λ c κs. search needs) (λ c. search needs) returns returns-2)

@@ -1,40 +1,36 @@
 -- `listing::write_end` meets its contract: the text that is put holds the line. Assumes nothing.
-use borrow.Author.Needs.{needs}
+use mathlib.Core.Path.{sym}
 use native.Mathlib.Omega.{arith}
+use lib.Seq.{length-take-le}
+use borrow.Author.Needs.{needs}
 use Rattle.listing.specs.Line.{endOf}
-use Rattle.listing.proofs.Held.{_then_, from-empty, held-length}
+use Rattle.listing.proofs.Appends.{_then_, up-to}
+use Rattle.listing.proofs.Room.{built}
 use Rattle.listing.proofs.write_end.Statement.{statement}
 use Rattle.listing.proofs.write_end.Tie as tie
+
+slice-aggregate-put-text : tie.Need-slice-aggregate-put-text
+slice-aggregate-put-text c = sym (length-take-le _ _ (omega arith))
 
 returns : tie.Need-returns
 unfolding endOf
 returns c =
-    let at-put = c .before .before in
-    let at-newline = at-put .before .before in
-    let at-refused = at-newline .before in
-    let at-accepted = at-refused .before in
-    let said = at-accepted .before in
-    let built =
-    from-empty
-    (said .push-all .ensures
-    then at-accepted .push-field .ensures
-    then at-refused .push-field2 .ensures
-    then at-newline .push .ensures)
-    (said .before .before .empty .ensures)
-    (omega arith) in
-    let put = at-put .put-text .ensures in
-    (rw (← built .reads) (put .0), (rw (← built .reads) (put .1), held-length built))
+    let put = c .before .before in
+    let end = put .before .before .before .before in
+    let refused = end .before .before .before in
+    let accepted = refused .before .before .before in
+    let said = accepted .before .before .before in
+    built _ _
+    (up-to (omega arith)
+    (said .push-all .ensures .0
+    then accepted .push-field .ensures
+    then refused .push-field2 .ensures
+    then end .push .ensures))
+    (put .put-text .ensures)
 
 pub write-end-spec : {M : Type 1} → statement M
 write-end-spec =
     tie.close
-    (tie.spec
-    (λ c κs. search needs)
-    (λ c. search needs)
-    (λ c κs. search needs)
-    (λ c κs. search needs)
-    (λ c κs. search needs)
-    (λ c κs. search needs)
-    (λ c κs. search needs)
-    (λ c. search needs)
-    returns)
+    (tie.spec (λ c. search needs) (λ c. search needs) (λ c κs. search needs) (λ c. search needs) (λ c κs. search needs)
+    (λ c. search needs) (λ c κs. search needs) (λ c. search needs) (λ c κs. search needs) (λ c. search needs)
+    slice-aggregate-put-text (λ c κs. search needs) (λ c. search needs) returns)

@@ -1,16 +1,23 @@
 -- `listing::write_line` meets its contract: the text that is put holds the line. Assumes nothing.
+use mathlib.Core.Path.{sym}
+use native.Mathlib.Omega.{arith}
+use lib.Seq.{length-take-le}
 use borrow.Author.Needs.{needs}
-use Rattle.listing.proofs.Held.{held-length}
+use Rattle.listing.proofs.Room.{built}
 use Rattle.listing.proofs.write_line.Statement.{statement}
 use Rattle.listing.proofs.write_line.Tie as tie
 
+slice-aggregate-put-text : tie.Need-slice-aggregate-put-text
+slice-aggregate-put-text c = sym (length-take-le _ _ (omega arith))
+
 returns : tie.Need-returns
 returns c =
-    let at-put = c .before .before in
-    let at-line = at-put .before .before in
-    let line = at-line .line .ensures in
-    let put = at-put .put-text .ensures in
-    (rw (← line .reads) (put .0), (rw (← line .reads) (put .1), held-length line))
+    let put = c .before .before in
+    let line = put .before .before .before .before in
+    built _ _ (line .push-line .ensures) (put .put-text .ensures)
 
 pub write-line-spec : {M : Type 1} → statement M
-write-line-spec = tie.close (tie.spec (λ c κs. search needs) (λ c κs. search needs) (λ c. search needs) returns)
+write-line-spec =
+    tie.close
+    (tie.spec (λ c. search needs) (λ c κs. search needs) (λ c. search needs) slice-aggregate-put-text (λ c κs. search needs)
+    (λ c. search needs) returns)

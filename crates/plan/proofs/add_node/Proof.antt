@@ -1,49 +1,11 @@
--- `plan::add_node` meets its contract: each return carries what the tests showed to the law of its case. Assumes nothing.
-use mathlib.Core.Path.{_≡_}
-use mathlib.Core.Bool.{true}
-use native.Mathlib.Omega.{arith}
+-- `plan::add_node` meets its contract: the ring after the call, put together, is what the call on its parts left. Assumes nothing.
+use mathlib.Core.Path.{_∙_}
 use borrow.Author.Needs.{needs}
-use Rattle.network.specs.Layout.{soundRing}
-use Rattle.soundness.proofs.Loops.{refused, granted}
-use Rattle.change.proofs.Opening.{answers, accepts, unsound-refused}
-use Rattle.plan.proofs.Building.{add-node-started, add-node-full, add-node-none, add-node-many, add-node-done}
 use Rattle.plan.proofs.add_node.Statement.{statement}
 use Rattle.plan.proofs.add_node.Tie as tie
 
-ok : (c : tie.Else1) → soundRing (c .before .before .args .t1) ≡ true
-ok c = granted (c .before .is-sound .ensures) (c .if1 .left)
-
 returns : tie.Need-returns
-returns c = answers _ (c .refuse .ensures) (unsound-refused _ _ (refused (c .before .before .is-sound .ensures) (c .before .if1 .taken)))
-
-returns-2 : tie.Need-returns-2
-returns-2 c = answers _ (c .refuse2 .ensures) (add-node-started _ (ok (c .before .before)) (c .before .if2 .taken) _)
-
-returns-3 : tie.Need-returns-3
-returns-3 c =
-    let idle = c .before .before in
-    answers _ (c .refuse3 .ensures) (add-node-full _ (ok (idle .before)) (idle .if2 .left) _ (omega arith))
-
-returns-4 : tie.Need-returns-4
-returns-4 c =
-    let idle = c .before .before .before in
-    answers _ (c .refuse4 .ensures) (add-node-none _ (ok (idle .before)) (idle .if2 .left) _ (omega arith) (omega arith))
-
-returns-5 : tie.Need-returns-5
-returns-5 c =
-    let idle = c .before .before .before .before in
-    answers _ (c .refuse5 .ensures)
-    (add-node-many _ (ok (idle .before)) (idle .if2 .left) _ (omega arith) (omega arith) (omega arith))
-
-returns-6 : tie.Need-returns-6
-returns-6 c =
-    let idle = c .before .before .before .before in
-    accepts _ (c .accept .ensures)
-    (add-node-done _ (ok (idle .before)) (idle .if2 .left) _ (omega arith) (omega arith) (omega arith))
+returns c = c .whole .ensures ∙ c .before .add-node .ensures
 
 pub add-node-spec : {M : Type 1} → statement M
-add-node-spec =
-    tie.close
-    (tie.spec (λ c κs. search needs) (λ c κs. search needs) returns (λ c κs. search needs) returns-2
-    (λ c κs. search needs) returns-3 (λ c κs. search needs) returns-4 (λ c κs. search needs) returns-5
-    (λ c. search needs) (λ c. search needs) (λ c. search needs) (λ c. search needs) (λ c κs. search needs) returns-6)
+add-node-spec = tie.close (tie.spec (λ c κs. search needs) (λ c κs. search needs) returns)

@@ -1,154 +1,128 @@
--- `soundness::is_sound` meets its contract: the tests are those of `testRing`, in its order, and `testRing` is the sound ring of the
--- definitions. Assumes nothing.
-use mathlib.Core.Path.{_≡_, sym, ap, _∙_}
-use mathlib.Core.Bool.{Bool, true, _&&_}
-use lib.Dec.{leb, eqb}
-use lib.ListN.{length-map}
+-- `soundness::is_sound` meets its contract: its tests are the parts of `Fits`, and a ring fits exactly when it is sound. Assumes nothing.
+use mathlib.Core.Path.{_≡_, refl}
+use mathlib.Core.Bool.{Bool, false}
 use borrow.Author.Needs.{needs}
-use borrow.Author.Tests.{le-leb, lt-leb}
 use Rattle.network.specs.declared.Ring.{Ring}
-use Rattle.network.specs.Layout.{soundRing}
-use Rattle.soundness.specs.declared.Routes.{Routes}
-use Rattle.soundness.specs.Test.{channelsFit, nodesFit, routesOf, messagesFit, testRing}
-use Rattle.soundness.proofs.Loops.{refused, granted}
-use Rattle.soundness.proofs.Exact.{Whole, test-is-sound}
+use Rattle.network.specs.Layout.{soundRing, ringIn}
+use Rattle.network.proofs.Cases.{both-ways}
+use Rattle.network.proofs.Memory.{sound-ring}
+use Rattle.soundness.specs.Fits.{CountsFit, Fits}
+use Rattle.soundness.specs.Decides.{Decides}
+use Rattle.soundness.proofs.Decides.{same-test, refused, granted, restated}
+use Rattle.soundness.proofs.View.{Whole}
+use Rattle.soundness.proofs.Accepted.{fits-sound}
+use Rattle.soundness.proofs.Passes.{sound-fits}
 use Rattle.soundness.proofs.is_sound.Statement.{statement}
 use Rattle.soundness.proofs.is_sound.Tie as tie
 
--- the arrays are as long as their types say, and the count fits its type
-whole : (c : tie.Start) → Whole (c .args .ring)
+-- the moments of the test: at its start, and where the counts, the nodes, the channels, the records and the messages have passed
+
+abbrev began : tie.Else1 → tie.Start
+began c = c .before .before
+
+abbrev counted : tie.Else2 → tie.Else1
+counted c = c .before .before .before .before .before .before .before .before .before .before .before
+
+abbrev noded : tie.Else3 → tie.Else2
+noded c = c .before .before .before .before .before .before .before .before .before .before
+
+abbrev channelled : tie.Else4 → tie.Else3
+channelled c = c .before .before .before .before
+
+abbrev recorded : tie.Else5 → tie.Else4
+recorded c = c .before .before .before .before .before .before .before
+
+abbrev ringOf : tie.Start → Ring
+ringOf c =
+    ringIn (c .args .head) (c .args .slots .now) (c .args .lines .now) (c .args .offers .now) (c .args .carried .now)
+
+-- what the types say
+whole : (c : tie.Start) → Whole (c .args .head)
 whole c =
     record {
-      nodes-whole = sym (length-map (c .args .ring .nodes) _) ∙ c .good .0 .1 .1 .1 .1 .1 .0 .1 .0 .1;
-      channels-whole = sym (length-map (c .args .ring .channels) _) ∙ c .good .0 .1 .1 .1 .1 .1 .1 .0 .1 .0 .1;
-      slots-whole = search needs;
-      lines-whole = search needs;
-      count-within = search needs;
+      capacity = search needs;
+      used = search needs;
+      waiting = search needs;
+      marks = search needs;
+      senders = search needs;
+      receivers = search needs;
+      phases = search needs;
+      offered = search needs;
+      deliveries = search needs;
     }
 
--- the answer by the test: a statement of `testRing` is one of the sound ring
-by-test-ring : (c : tie.Start) {r : Bool} → r ≡ testRing (c .args .ring) → r ≡ soundRing (c .args .ring)
-by-test-ring c e = e ∙ test-is-sound (c .args .ring) (whole c)
+counts : (c : tie.Else1) →
+    let head = began c .args .head in
+    CountsFit (head .started) (head .«node_count») (head .«channel_count») (head .spare)
+counts c = granted (c .before .counts-fit .ensures) (c .if1 .left)
 
-abbrev given : tie.Else3 → tie.Start
-given c = c .before .before .before .before .before
+-- the answers
 
-abbrev ringOf : tie.Else3 → Ring
-ringOf c = given c .args .ring
+unsound : (c : tie.Start) → (Fits (ringOf c) → ⊥) → false ≡ soundRing (ringOf c)
+unsound c none =
+    same-test (λ e. both-ways e refl) (λ e. absurd (none (sound-fits (ringOf c) (sound-ring (ringOf c) e))))
 
--- the clauses that passed
-counts-fit : (c : tie.Else3) → (leb (ringOf c .started) 1 && leb (ringOf c .«node_count») 16 && leb (ringOf c .«channel_count») 64) ≡ true
-counts-fit c = rw (le-leb _ _ (c .before .before .if1 .left), le-leb _ _ (c .before .if2 .left), le-leb _ _ (c .if3 .left))
-
--- what the pass over the channels found, and the clauses that the others answer
-abbrev routes : Ring → Routes
-routes ring = routesOf (eqb (ring .started) 1) (ring .«node_count») (ring .«channel_count») (ring .channels)
-
-abbrev channelsOf : Ring → Bool
-channelsOf ring = channelsFit (eqb (ring .started) 1) (ring .«node_count») (ring .«channel_count») (ring .channels)
-
-abbrev nodesOf : Ring → Bool
-nodesOf ring = nodesFit (eqb (ring .started) 1) (ring .«node_count») (ring .nodes)
-
-abbrev messagesOf : Ring → Bool
-messagesOf ring =
-    messagesFit (ring .«node_count») (ring .«channel_count») (ring .nodes) (ring .slots) (ring .lines) (routes ring)
-
-abbrev counted : tie.After-routes-of → tie.Else3
-counted c = c .before .before
-
-channels-found : (c : tie.After-routes-of) → c .routes-of .result .fit ≡ channelsOf (ringOf (counted c))
-unfolding routesOf
-channels-found c = ap (λ r. r .fit) (c .routes-of .ensures)
-
-abbrev routed : tie.Else4 → tie.After-routes-of
-routed c = c .before .before
-
-channels-fit : (c : tie.Else4) → channelsOf (ringOf (counted (routed c))) ≡ true
-channels-fit c = granted (channels-found (routed c)) (c .if4 .left)
-
-abbrev channelled : tie.Else5 → tie.Else4
-channelled c = c .before .before .before
-
-nodes-fit : (c : tie.Else5) → nodesOf (ringOf (counted (routed (channelled c)))) ≡ true
-nodes-fit c = granted (c .before .nodes-fit .ensures) (c .if5 .left)
-
-abbrev noded : tie.After-messages-fit → tie.Else5
-noded c = c .before .before .before .before .before
-
-messages-found : (c : tie.After-messages-fit) →
-    c .messages-fit .result ≡ messagesOf (ringOf (counted (routed (channelled (noded c)))))
-messages-found c = rw (← (routed (channelled (noded c)) .routes-of .ensures)) (c .messages-fit .ensures)
+sound-exactly : (c : tie.Start) {r : Bool} → Decides r (Fits (ringOf c)) → r ≡ soundRing (ringOf c)
+sound-exactly c d =
+    same-test (λ e. fits-sound (ringOf c) (d .holds e) (whole c)) (λ e. d .passes (sound-fits (ringOf c) (sound-ring (ringOf c) e)))
 
 returns : tie.Need-returns
-unfolding testRing
-returns c = by-test-ring (c .before .before .before) (rw (lt-leb _ _ (c .if1 .taken)))
+returns c = unsound (c .before .before) (λ f. refused (c .before .counts-fit .ensures) (c .if1 .taken) (f .counts))
 
 returns-2 : tie.Need-returns-2
-unfolding testRing
 returns-2 c =
-    by-test-ring (c .before .before .before .before) (rw (le-leb _ _ (c .before .if1 .left), lt-leb _ _ (c .if2 .taken)))
+    let before = c .before .before .before .before .before .before .before .before .before .before .before in
+    unsound (began before) (λ f. refused (c .before .nodes-fit .ensures) (c .if2 .taken) (f .nodes))
 
 returns-3 : tie.Need-returns-3
-unfolding testRing
 returns-3 c =
-    by-test-ring (c .before .before .before .before .before)
-    (rw (le-leb _ _ (c .before .before .if1 .left), le-leb _ _ (c .before .if2 .left), lt-leb _ _ (c .if3 .taken)))
+    let before = c .before .before .before .before .before .before .before .before .before .before in
+    unsound (began (counted before)) (λ f. refused (c .before .channels-fit .ensures) (c .if3 .taken) (f .channels))
 
 returns-4 : tie.Need-returns-4
-unfolding testRing
 returns-4 c =
-    let r = c .before .before in
-    let d = counted r in
-    by-test-ring (given d) (rw (counts-fit d, refused (channels-found r) (c .if4 .taken)))
+    let before = c .before .before .before .before in
+    unsound (began (counted (noded before))) (λ f. refused (c .before .records-fit .ensures) (c .if4 .taken) (f .records))
 
 returns-5 : tie.Need-returns-5
-unfolding testRing
 returns-5 c =
-    let e = c .before .before .before in
-    let d = counted (routed e) in
-    by-test-ring (given d) (rw (counts-fit d, channels-fit e, refused (c .before .nodes-fit .ensures) (c .if5 .taken)))
-
--- the cells that are lent
-lent : (c : tie.After-lines2) → Whole (ringOf (counted (routed (channelled (c .before .before .before .before)))))
-lent c = whole (given (counted (routed (channelled (c .before .before .before .before)))))
-
-messages-fit-requires : tie.Need-messages-fit-requires
-messages-fit-requires c κs = (search needs, (lent c .slots-whole, lent c .lines-whole))
+    let before = c .before .before .before .before .before .before .before in
+    unsound (began (counted (noded (channelled before))))
+    (λ f. refused (c .before .messages-fit .ensures) (c .if5 .taken) (f .messages))
 
 returns-6 : tie.Need-returns-6
-unfolding testRing
 returns-6 c =
-    let f = noded (c .before) in
-    let e = channelled f in
-    let d = counted (routed e) in
-    by-test-ring (given d)
-    (rw (counts-fit d, channels-fit e, nodes-fit f, refused (messages-found (c .before)) (c .if6 .taken)))
-
-returns-7 : tie.Need-returns-7
-unfolding testRing
-returns-7 c =
-    let m = c .before .before in
-    let f = noded m in
-    let e = channelled f in
-    let d = counted (routed e) in
-    by-test-ring (given d)
-    (rw (counts-fit d, channels-fit e, nodes-fit f, granted (messages-found m) (c .before .if6 .left)) (c .start-fits .ensures))
+    let messages = c .before in
+    let records = recorded messages in
+    let channels = channelled records in
+    let nodes = noded channels in
+    sound-exactly (began (counted nodes))
+    (restated
+    (λ start. record {
+      counts = counts (counted nodes);
+      nodes = granted (nodes .before .nodes-fit .ensures) (nodes .if2 .left);
+      channels = granted (channels .before .channels-fit .ensures) (channels .if3 .left);
+      records = granted (records .before .records-fit .ensures) (records .if4 .left);
+      messages = granted (messages .before .messages-fit .ensures) (messages .if5 .left);
+      start = start;
+    })
+    (λ f. f .start) (c .start-fits .ensures))
 
 pub is-sound-spec : {M : Type 1} → statement M
 is-sound-spec =
     tie.close
     (tie.spec
+    (λ c κs. search needs)
     returns
+    (λ c κs. search needs)
     returns-2
+    (λ c κs. search needs)
     returns-3
-    (λ c κs. search needs)
+    (λ c κs. counts (counted (noded (c .before .before))) .channels-within)
     returns-4
-    (λ c κs. search needs)
+    (λ c κs.
+    let fit = counts (counted (noded (channelled (c .before .before .before .before .before)))) in
+    (fit .nodes-within, fit .channels-within))
     returns-5
-    (λ c. search needs)
-    (λ c. sym (lent c .lines-whole))
-    messages-fit-requires
-    returns-6
     (λ c κs. search needs)
-    returns-7)
+    returns-6)

@@ -1,5 +1,4 @@
 -- `tape::width_of` meets its contract: each command byte has its row. Assumes nothing.
-use mathlib.Core.Path.{sym, ap}
 use Rattle.tape.specs.Table.{Row, rowOf, find, commands}
 use Rattle.tape.proofs.Rows.{unknown}
 use Rattle.tape.proofs.width_of.Statement.{statement}

@@ -1,6 +1,5 @@
 -- `wire::put_record_at` meets its contract: the part from the place on is lent to `put_record`. Assumes nothing.
 use borrow.Author.Needs.{needs}
-use Rattle.wire.specs.Record.{recordBytes}
 use Rattle.wire.proofs.Buffer.{lent}
 use Rattle.wire.proofs.put_record_at.Statement.{statement}
 use Rattle.wire.proofs.put_record_at.Tie as tie

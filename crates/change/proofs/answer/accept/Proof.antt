@@ -7,5 +7,4 @@ returns : tie.Need-returns
 returns c = rw (c .none .ensures)
 
 pub accept-spec : {M : Type 1} → statement M
-accept-spec = tie.close
-    (tie.spec (λ c κs. search needs) returns)
+accept-spec = tie.close (tie.spec (λ c κs. search needs) returns)

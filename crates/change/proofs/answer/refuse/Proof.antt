@@ -7,5 +7,4 @@ returns : tie.Need-returns
 returns c = rw (c .none .ensures)
 
 pub refuse-spec : {M : Type 1} → statement M
-refuse-spec = tie.close
-    (tie.spec (λ c κs. search needs) returns)
+refuse-spec = tie.close (tie.spec (λ c κs. search needs) returns)

@@ -31,5 +31,4 @@ returns c =
     rw (magnitude (c .before .args .z) (c .before .fits .z) (negative c)) (omega arith)
 
 pub distance-spec : {M : Type 1} → statement M
-distance-spec =
-    tie.close (tie.spec sub-result cast-result add-result cast-result-2 returns (λ c. search needs))
+distance-spec = tie.close (tie.spec sub-result cast-result add-result cast-result-2 returns (λ c. search needs))

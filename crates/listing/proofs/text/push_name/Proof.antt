@@ -11,7 +11,7 @@ use borrow.Kind.Array.{eInt, good-length}
 use borrow.Author.Needs.{needs}
 use Rattle.network.proofs.Cases.{by-less}
 use Rattle.listing.specs.Line.{space, nameField}
-use Rattle.listing.proofs.Held.{_then_, same, up-to}
+use Rattle.listing.proofs.Appends.{_then_, nothing, up-to}
 use Rattle.listing.proofs.text.push_name.Statement.{statement}
 use Rattle.listing.proofs.text.push_name.Tie as tie
 
@@ -27,52 +27,51 @@ take-end n cells =
     λ h. let e : min n (length cells) ≡ length cells = omega arith in
     rw (e, take-all (length cells) cells (omega arith), take-all n cells h)
 
-full : (c : tie.Start) → length (c .args .t3) ≡ 32
-full c = good-length (eInt w8) 32 (c .args .t3) _ (c .good .1 .1 .0)
+full : (c : tie.Start) → length (c .args .t4) ≡ 32
+full c = good-length (eInt w8) 32 (c .args .t4) _ (c .good .1 .1 .1 .0)
 
 -- the part of the cells that is lent
 module _ (c : tie.After-name-end) where
+  abbrev start : tie.Start
+  start = c .before .before .before
+
   abbrev cells : List ℕ
-  cells = c .before .before .args .t3
+  cells = start .args .t4
 
   abbrev name : List ℕ
   name = take (c .name-end .result) cells
 
-  ended : c .name-end .result ≡ min (c .before .before .args .length) (length cells)
-  ended = c .name-end .ensures ∙ rw (full (c .before .before))
+  ended : c .name-end .result ≡ min (start .args .size) (length cells)
+  ended = c .name-end .ensures ∙ rw (full start)
 
   size : length name ≡ c .name-end .result
-  size = length-take (c .name-end .result) cells ∙ omega (arith, ended, full (c .before .before))
+  size = length-take (c .name-end .result) cells ∙ omega (arith, ended, full start)
 
-  named : nameField (take (c .before .before .args .length) cells) ≡ space ∷ name
+  named : nameField (take (start .args .size) cells) ≡ space ∷ name
   named =
-      let e : name ≡ take (c .before .before .args .length) cells
+      let e : name ≡ take (start .args .size) cells
       = ap (λ (k : ℕ). take k cells) ended ∙ take-end _ cells in
-      rw (← e) (some-name name λ z. c .before .if1 .left (omega (arith, size, ended, full (c .before .before))))
+      rw (← e) (some-name name λ z. c .before .if1 .left (omega (arith, size, ended, full start)))
 
 returns : tie.Need-returns
-returns c = rw (c .if1 .taken) (up-to (omega arith) (same _))
+returns c = rw (c .if1 .taken) nothing
 
 slice-aggregate-push-all : tie.Need-slice-aggregate-push-all
-slice-aggregate-push-all c = sym (size (c .before .before))
+slice-aggregate-push-all c = sym (size (c .before .before .before .before .before .before))
 
 push-all-requires : tie.Need-push-all-requires
-push-all-requires c κs = omega (arith, size (c .before .before))
+push-all-requires c κs = omega (arith, size (c .before .before .before .before .before .before))
 
 returns-2 : tie.Need-returns-2
 returns-2 c =
-    let at-end = c .before .before .before in
+    let lent = c .before .before in
+    let spaced = lent .before .before .before .before .before in
+    let at-end = spaced .before .before in
     rw (named at-end)
-    (up-to (omega (arith, size at-end)) (c .before .before .push .ensures then c .push-all .ensures))
+    (up-to (omega (arith, size at-end)) (spaced .push .ensures then lent .push-all .ensures .0))
 
 pub push-name-spec : {M : Type 1} → statement M
 push-name-spec =
     tie.close
-    (tie.spec
-    returns
-    (λ c κs. search needs)
-    (λ c κs. search needs)
-    (λ c. search needs)
-    slice-aggregate-push-all
-    push-all-requires
-    returns-2)
+    (tie.spec returns (λ c κs. search needs) (λ c κs. search needs) (λ c. search needs) slice-aggregate-push-all
+    push-all-requires (λ c. search needs) returns-2)

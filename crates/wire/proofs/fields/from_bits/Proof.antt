@@ -1,5 +1,4 @@
 -- `wire::fields::from_bits` meets its contract: by the half in which the bits lie. Assumes nothing.
-use mathlib.Core.Path.{_≡_, _∙_}
 use native.Mathlib.Omega.{arith}
 use borrow.Author.Needs.{needs}
 use borrow.Author.Tests.{lt-ltb}

@@ -1,5 +1,5 @@
 -- `wire::fields::put_u8` meets its contract: a store at the front. Assumes nothing.
-use Prim.Native.Nat.{ℕ, _%_}
+use Prim.Native.Nat.{_%_}
 use mathlib.Core.Path.{_≡_}
 use native.Mathlib.Omega.{arith}
 use lib.Seq.{set-split}

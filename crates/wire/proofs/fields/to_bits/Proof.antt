@@ -1,10 +1,8 @@
 -- `wire::fields::to_bits` meets its contract: by the sign. Assumes nothing.
-use Prim.Native.Nat.{_-_}
 use mathlib.Core.Path.{_≡_, sym}
 use native.Mathlib.Omega.{arith}
 use lib.IntN.{negsuc, pos}
 use lib.Signed.{mag}
-use borrow.Author.Needs.{needs}
 use Rattle.wire.proofs.Signed.{below, above, mirror-is, magnitude, twos-below, stays, twos-above}
 use Rattle.wire.proofs.fields.to_bits.Statement.{statement}
 use Rattle.wire.proofs.fields.to_bits.Tie as tie

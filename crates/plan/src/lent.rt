@@ -1,0 +1,126 @@
+// The calls of this crate on a ring whose cells and records are lent: each takes the head by value and answers the head after the call,
+// with the reply. It tests the ring first and refuses an unsound one; then come the refusals of document 01 in their order, and a refusal
+// leaves the ring as it was.
+use change::answer::accept;
+use change::answer::refuse;
+use network::Cells;
+use network::Head;
+use network::HeadStep;
+use network::NodeNo;
+use network::Records;
+use network::Ring;
+use refusal::Refusal;
+use soundness;
+ghost use mathlib.Core.Path.{_≡_};
+ghost use Rattle.network.specs.Answers.{stepOf};
+ghost use Rattle.network.specs.Layout.{callRing, ringIn, stepIn};
+ghost use Rattle.network.specs.Runs;
+
+// A node with so many slots comes after the others, with nothing in it.
+pub fn add_node(
+    mut head: Head,
+    slots: &Cells,
+    lines: &Cells,
+    offers: &Records,
+    carried: &Records,
+    capacity: u8,
+) -> HeadStep
+    ensures { λ r. ⌜ stepIn r (now (slots .entry)) (now (lines .entry)) (now (offers .entry)) (now (carried .entry))
+        ≡ stepOf (ringIn head (now (slots .entry)) (now (lines .entry)) (now (offers .entry)) (now (carried .entry)))
+        (callRing (Runs.addNode capacity)
+        (ringIn head (now (slots .entry)) (now (lines .entry)) (now (offers .entry)) (now (carried .entry)))) ⌝ }
+{
+    if !soundness::is_sound(head, slots, lines, offers, carried) {
+        return refuse(head, Refusal::UnsoundRing);
+    }
+    if head.started != 0 {
+        return refuse(head, Refusal::AlreadyStarted);
+    }
+    let count = head.node_count;
+    if Ring::MOST_NODES <= count {
+        return refuse(head, Refusal::NodesFull);
+    }
+    if capacity < 1 {
+        return refuse(head, Refusal::BadSlots);
+    }
+    if Ring::MOST_SLOTS < capacity {
+        return refuse(head, Refusal::BadSlots);
+    }
+    head.capacity[count as usize] = capacity;
+    head.node_count = count + 1;
+    accept(head)
+}
+
+// A channel between two nodes comes after the others, at rest.
+pub fn add_channel(
+    mut head: Head,
+    slots: &Cells,
+    lines: &Cells,
+    offers: &Records,
+    carried: &Records,
+    sender: NodeNo,
+    receiver: NodeNo,
+) -> HeadStep
+    ensures { λ r. ⌜ stepIn r (now (slots .entry)) (now (lines .entry)) (now (offers .entry)) (now (carried .entry))
+        ≡ stepOf (ringIn head (now (slots .entry)) (now (lines .entry)) (now (offers .entry)) (now (carried .entry)))
+        (callRing (Runs.addChannel (sender .0) (receiver .0))
+        (ringIn head (now (slots .entry)) (now (lines .entry)) (now (offers .entry)) (now (carried .entry)))) ⌝ }
+{
+    if !soundness::is_sound(head, slots, lines, offers, carried) {
+        return refuse(head, Refusal::UnsoundRing);
+    }
+    if head.started != 0 {
+        return refuse(head, Refusal::AlreadyStarted);
+    }
+    let nodes = head.node_count;
+    let count = head.channel_count;
+    if Ring::MOST_CHANNELS <= count {
+        return refuse(head, Refusal::ChannelsFull);
+    }
+    if nodes <= sender.0 {
+        return refuse(head, Refusal::NoSuchEnd);
+    }
+    if nodes <= receiver.0 {
+        return refuse(head, Refusal::NoSuchEnd);
+    }
+    let k = count as usize;
+    head.senders[k] = sender.0;
+    head.receivers[k] = receiver.0;
+    head.channel_count = count + 1;
+    accept(head)
+}
+
+// The ring starts, if it has a node, a channel and more slots than channels.
+pub fn start(
+    mut head: Head,
+    slots: &Cells,
+    lines: &Cells,
+    offers: &Records,
+    carried: &Records,
+) -> HeadStep
+    ensures { λ r. ⌜ stepIn r (now (slots .entry)) (now (lines .entry)) (now (offers .entry)) (now (carried .entry))
+        ≡ stepOf (ringIn head (now (slots .entry)) (now (lines .entry)) (now (offers .entry)) (now (carried .entry)))
+        (callRing Runs.start
+        (ringIn head (now (slots .entry)) (now (lines .entry)) (now (offers .entry)) (now (carried .entry)))) ⌝ }
+{
+    if !soundness::is_sound(head, slots, lines, offers, carried) {
+        return refuse(head, Refusal::UnsoundRing);
+    }
+    if head.started != 0 {
+        return refuse(head, Refusal::AlreadyStarted);
+    }
+    let channels = head.channel_count;
+    if head.node_count < 1 {
+        return refuse(head, Refusal::NothingToStart);
+    }
+    if channels < 1 {
+        return refuse(head, Refusal::NothingToStart);
+    }
+    // Nodes that were not added have no slots.
+    let capacity = head.capacity;
+    if soundness::slot_count(capacity) <= channels as usize {
+        return refuse(head, Refusal::TooFewSlots);
+    }
+    head.started = 1;
+    accept(head)
+}

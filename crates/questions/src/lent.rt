@@ -1,0 +1,157 @@
+// The questions of this crate on a ring whose cells and records are lent. Each tests the ring first and refuses an unsound one; then come
+// the refusals of document 01 in their order. The answer is read off the head and, for where a message stands, the cells of the buffers.
+use hops;
+use network::Answer;
+use network::Cells;
+use network::ChannelNo;
+use network::Head;
+use network::NodeNo;
+use network::Records;
+use network::Ring;
+use refusal::Refusal;
+use soundness;
+ghost use mathlib.Core.Path.{_≡_};
+ghost use Prim.Native.Nat.{_+_, _≤_, _<_};
+ghost use Rattle.network.specs.Answers.{replyOf};
+ghost use Rattle.network.specs.Layout.{channelRoom, cellRoom, callRing, ringIn};
+ghost use Rattle.network.specs.Runs.{hopsLeft, waitingSet};
+ghost use Rattle.questions.specs.Asked.{Within, standsIn, placeIn, hopsIn, waitsBy, waitingIn};
+
+// How many hops the channel's record has still to go, or its request and then the record.
+pub fn hops_left(
+    head: Head,
+    slots: &Cells,
+    lines: &Cells,
+    offers: &Records,
+    carried: &Records,
+    channel: ChannelNo,
+) -> Answer
+    ensures { λ r. ⌜ r
+        ≡ replyOf (callRing (hopsLeft (channel .0))
+        (ringIn head (now (slots .entry)) (now (lines .entry)) (now (offers .entry)) (now (carried .entry)))) .answer ⌝ }
+{
+    if !soundness::is_sound(head, slots, lines, offers, carried) {
+        return Answer::Refused(Refusal::UnsoundRing);
+    }
+    let k = channel.0;
+    if head.started == 0 {
+        return Answer::Refused(Refusal::NotStarted);
+    }
+    if head.channel_count <= k {
+        return Answer::Refused(Refusal::NoSuchChannel);
+    }
+    let left = hops_of(head, slots, k);
+    Answer::Hops(left)
+}
+
+// Hops left of a channel. A message in a line has its hops to go from the node where it enters; one in the buffer of a node, those from
+// there.
+fn hops_of(head: Head, slots: &Cells, channel: u8) -> u8
+    requires { ⌜ (Within head) × (channel < channelRoom) ⌝ }
+    ensures { λ r. ⌜ r ≡ hopsIn head (now (slots .entry)) channel ⌝ }
+{
+    let n = head.node_count;
+    let k = channel as usize;
+    let cell = channel + 1;
+    let phase = head.phases[k];
+    let sender = head.senders[k];
+    let receiver = head.receivers[k];
+    if phase == Ring::RESTING {
+        return 0;
+    }
+    let back = hops::hops(n, sender, receiver);
+    if phase == Ring::READY {
+        return back;
+    }
+    if phase == Ring::ASKING {
+        let from = place_of(head, slots, cell, receiver);
+        let there = hops::hops(n, from, sender);
+        return there + back;
+    }
+    let from = place_of(head, slots, cell, sender);
+    hops::hops(n, from, receiver)
+}
+
+// The node in whose buffer the cell stands, or `entry` where it stands in none.
+fn place_of(head: Head, slots: &Cells, cell: u8, entry: u8) -> u8
+    requires { ⌜ Within head ⌝ }
+    ensures { λ r. ⌜ r ≡ placeIn head (now (slots .entry)) cell entry (head .«node_count») ⌝ }
+{
+    let mut p = head.node_count;
+    while 0 < p {
+        p -= 1;
+        let at = p as usize;
+        let used = head.used[at] as usize;
+        if stands_in(slots, network::ROW * at, used, cell) {
+            return p;
+        }
+    }
+    entry
+}
+
+// Whether the cell stands among the `used` cells from `base` on.
+fn stands_in(cells: &Cells, base: usize, used: usize, cell: u8) -> bool
+    requires { ⌜ base + used ≤ cellRoom ⌝ }
+    ensures { λ r. ⌜ r ≡ standsIn (now (cells .entry)) base cell used ⌝ }
+{
+    let mut j = used;
+    while 0 < j {
+        j -= 1;
+        if cells[base + j] == cell {
+            return true;
+        }
+    }
+    false
+}
+
+// The channels whose receiver is the node and that are not resting, as a set of bits, channel 0 being the lowest.
+pub fn waiting_set(
+    head: Head,
+    slots: &Cells,
+    lines: &Cells,
+    offers: &Records,
+    carried: &Records,
+    node: NodeNo,
+) -> Answer
+    ensures { λ r. ⌜ r
+        ≡ replyOf (callRing (waitingSet (node .0))
+        (ringIn head (now (slots .entry)) (now (lines .entry)) (now (offers .entry)) (now (carried .entry)))) .answer ⌝ }
+{
+    if !soundness::is_sound(head, slots, lines, offers, carried) {
+        return Answer::Refused(Refusal::UnsoundRing);
+    }
+    let p = node.0;
+    if head.node_count <= p {
+        return Answer::Refused(Refusal::NoSuchNode);
+    }
+    let set = set_of(head, p);
+    Answer::Waiting(set)
+}
+
+// From the last channel to the first: every channel moves the set up by a bit, and its own is the lowest.
+fn set_of(head: Head, p: u8) -> u64
+    requires { ⌜ head .«channel_count» ≤ channelRoom ⌝ }
+    ensures { λ r. ⌜ r ≡ waitingIn head p ⌝ }
+{
+    let mut set: u64 = 0;
+    let mut k = head.channel_count as usize;
+    while 0 < k {
+        k -= 1;
+        let bit = bit_of(head.receivers[k], head.phases[k], p);
+        set = 2 * set + bit;
+    }
+    set
+}
+
+// 1 where a channel waits at node `p`: `p` is its receiver and it is not resting.
+fn bit_of(receiver: u8, phase: u8, p: u8) -> u64
+    ensures { λ r. ⌜ r ≡ waitsBy p receiver phase ⌝ }
+{
+    if receiver != p {
+        return 0;
+    }
+    if phase != Ring::RESTING {
+        return 1;
+    }
+    0
+}

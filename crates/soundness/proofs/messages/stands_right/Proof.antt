@@ -1,0 +1,92 @@
+-- `soundness::messages::stands_right` meets its contract, by the phase and then by the place. Assumes nothing.
+use Prim.Native.Nat.{ℕ, _-_, _≤_}
+use mathlib.Core.Path.{_≡_, sym, _∙_}
+use mathlib.Core.Bool.{Bool}
+use mathlib.Core.Logic.{⊎-elim}
+use native.Mathlib.Omega.{arith}
+use borrow.Author.Needs.{needs}
+use Rattle.network.proofs.Cases.{by-same}
+use Rattle.soundness.specs.Decides.{Decides}
+use Rattle.soundness.specs.Marks.{inBuffer, inLine}
+use Rattle.soundness.specs.Fits.{UnderWay, Stands}
+use Rattle.soundness.proofs.Decides.{says-no, restated, decides-same}
+use Rattle.soundness.proofs.messages.stands_right.Statement.{statement}
+use Rattle.soundness.proofs.messages.stands_right.Tie as tie
+
+returns : tie.Need-returns
+returns c =
+    restated
+    (λ e. record { resting = λ h. e; asking = λ h. absurd (omega arith); ready = λ h. e; answering = λ h. absurd (omega arith) })
+    (λ s. s .resting (c .if1 .taken)) (decides-same _ 0)
+
+returns-2 : tie.Need-returns-2
+returns-2 c =
+    restated
+    (λ e. record { resting = λ h. e; asking = λ h. absurd (omega arith); ready = λ h. e; answering = λ h. absurd (omega arith) })
+    (λ s. s .ready (c .if2 .taken)) (decides-same _ 0)
+
+returns-3 : tie.Need-returns-3
+returns-3 c =
+    says-no
+    (λ s.
+    by-same (c .before .before .before .args .phase) 1
+    (λ e. omega (arith, s .asking e .somewhere))
+    (λ d. omega (arith, s .answering (omega arith) .somewhere)))
+
+-- what is left is a message under way, from the receiver to the sender or back
+module _ {phase sender receiver place : ℕ} {r : Bool} where
+  asking-stands : phase ≡ 1 → Decides r (UnderWay receiver sender place) → Decides r (Stands phase sender receiver place)
+  asking-stands e =
+      restated
+      (λ u. record {
+        resting = λ h. absurd (omega arith);
+        asking = λ h. u;
+        ready = λ h. absurd (omega arith);
+        answering = λ h. absurd (omega arith);
+      })
+      (λ s. s .asking e)
+
+  answering-stands : 3 ≤ phase → Decides r (UnderWay sender receiver place) → Decides r (Stands phase sender receiver place)
+  answering-stands l =
+      restated
+      (λ u. record {
+        resting = λ h. absurd (omega arith);
+        asking = λ h. absurd (omega arith);
+        ready = λ h. absurd (omega arith);
+        answering = λ h. u;
+      })
+      (λ s. s .answering l)
+
+routed : (c : tie.Joined4) {r : Bool} →
+    let given = c .before .before .before .before .args in
+    Decides r (UnderWay (c .if4 .entry) (c .if4 .target) (given .place)) →
+    Decides r (Stands (given .phase) (given .sender) (given .receiver) (given .place))
+routed c d =
+    ⊎-elim (λ w. asking-stands (w .0 .taken) (rw (w .1, w .2) at d))
+    (λ w. answering-stands (omega (arith, w .0 .left)) (rw (w .1, w .2) at d)) (c .if4 .came)
+
+returns-4 : tie.Need-returns-4
+returns-4 c =
+    let place = c .before .before .before .before .before .args .place in
+    routed (c .before)
+    (restated
+    (λ e. record { somewhere = omega arith; in-buffer = λ p l h. absurd (omega arith); in-line = λ p h. omega arith })
+    (λ u. u .in-line (place - inLine) (omega arith)) (decides-same _ _))
+
+returns-5 : tie.Need-returns-5
+returns-5 c =
+    let place = c .before .before .before .before .before .before .args .place in
+    routed (c .before .before)
+    (record {
+      holds = λ e. record {
+        somewhere = omega arith;
+        in-buffer = λ p l h. let node : p ≡ place - inBuffer = omega arith in rw node (sym (c .on-the-way .ensures) ∙ e);
+        in-line = λ p h. absurd (omega arith);
+      };
+      passes = λ u. c .on-the-way .ensures ∙ u .in-buffer (place - inBuffer) (omega arith) (omega arith);
+    })
+
+pub stands-right-spec : {M : Type 1} → statement M
+stands-right-spec =
+    tie.close
+    (tie.spec returns returns-2 returns-3 returns-4 (λ c. search needs) (λ c κs. search needs) returns-5)

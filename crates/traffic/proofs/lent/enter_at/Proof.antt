@@ -1,0 +1,80 @@
+-- `traffic::lent::enter_at` meets its contract: each return carries what the tests showed to the law of its case. Assumes nothing.
+use native.Mathlib.Omega.{arith}
+use borrow.Author.Needs.{needs}
+use Rattle.change.proofs.Opening.{refuses, accepts}
+use Rattle.change.proofs.Reading.{node-known, node-within}
+use Rattle.traffic.proofs.Entries.{enter-empty, enter-full, row-within, enter-room, enter-done}
+use Rattle.traffic.proofs.lent.enter_at.Statement.{statement}
+use Rattle.traffic.proofs.lent.enter_at.Tie as tie
+
+-- the start, from where the counts of the node were read
+abbrev start : tie.After-waiting → tie.Start
+start c = c .before .before .before
+
+-- a message waits, and a slot is free
+abbrev waits : tie.Else2 → tie.Else1
+waits c = c .before .before
+
+element-copy-out-used : tie.Need-element-copy-out-used
+element-copy-out-used c = node-within (c .before .pre)
+
+element-copy-out-waiting : tie.Need-element-copy-out-waiting
+element-copy-out-waiting c = node-within (c .before .before .pre)
+
+returns : tie.Need-returns
+returns c = refuses _ (enter-empty (start (c .before .before) .pre) (c .before .if1 .taken)) (c .refuse .ensures)
+
+element-copy-out-if2 : tie.Need-element-copy-out-if2
+element-copy-out-if2 c = node-within (start (c .before) .pre)
+
+returns-2 : tie.Need-returns-2
+returns-2 c =
+    let some = c .before .before .before in
+    refuses _ (enter-full (start (some .before) .pre) (some .if1 .left) (c .before .if2 .taken)) (c .refuse2 .ensures)
+
+element-copy-out-first : tie.Need-element-copy-out-first
+element-copy-out-first c = row-within (start (waits c .before) .pre)
+
+put-requires : tie.Need-put-requires
+put-requires c κs =
+    let free = c .before .before in
+    let h = start (waits free .before) .pre in
+    (node-within h, enter-room h (waits free .if1 .left) (free .if2 .left))
+
+shift-requires : tie.Need-shift-requires
+shift-requires c κs =
+    let h = start (waits (c .before .before .before .before) .before) .pre in
+    (node-within h, node-known h .holds .lines-whole)
+
+-- where both rows are changed
+abbrev changed : tie.After-shift → tie.Else2
+changed c = c .before .before .before .before .before
+
+add-head : tie.Need-add-head
+add-head c =
+    let free = changed c in
+    omega (arith, enter-room (start (waits free .before) .pre) (waits free .if1 .left) (free .if2 .left))
+
+element-write-head : tie.Need-element-write-head
+element-write-head c = node-within (start (waits (changed c) .before) .pre)
+
+element-write-head-2 : tie.Need-element-write-head-2
+element-write-head-2 c = node-within (start (waits (changed c) .before) .pre)
+
+element-write-head-3 : tie.Need-element-write-head-3
+element-write-head-3 c = node-within (start (waits (changed c) .before) .pre)
+
+returns-3 : tie.Need-returns-3
+returns-3 c =
+    let shift = c .before in
+    let free = changed shift in
+    let h = start (waits free .before) .pre in
+    rw (shift .shift .ensures, shift .before .before .put .ensures)
+    (accepts _ (enter-done h (waits free .if1 .left) (free .if2 .left)) (c .accept .ensures))
+
+pub enter-at-spec : {M : Type 1} → statement M
+enter-at-spec =
+    tie.close
+    (tie.spec (λ c. search needs) element-copy-out-used element-copy-out-waiting (λ c κs. search needs) returns element-copy-out-if2
+    (λ c κs. search needs) returns-2 (λ c. search needs) element-copy-out-first put-requires shift-requires add-head element-write-head
+    (λ c. search needs) element-write-head-2 element-write-head-3 (λ c κs. search needs) returns-3)

@@ -1,0 +1,21 @@
+//! The verdict expected on the bytes of a ring.
+
+use crate::layout::{read_back, record_bytes, Bytes, OFFERED, OFFERS, RECORD, SPARE};
+use second_model::ring::CHANNELS;
+
+/// The model's verdict on the ring that the bytes hold, where they hold one.
+pub fn sound(bytes: &Bytes) -> bool {
+    fits_the_model(bytes) && read_back(bytes).sound()
+}
+
+/// What the bytes may say and a ring of the model cannot. Such a ring is unsound
+/// by 01, "A sound ring": "cells that hold nothing are zero", and so is the
+/// spare byte; a flag is 0 or 1; where it is 0 no record is offered, so its
+/// bytes are zero; where it is 1 the record is good, so its batch number is not.
+fn fits_the_model(bytes: &Bytes) -> bool {
+    bytes[SPARE] == 0
+        && (0..CHANNELS).all(|at| {
+            let holds = record_bytes(bytes, OFFERS, at) != &[0; RECORD];
+            bytes[OFFERED + at] == holds as u8
+        })
+}

@@ -1,0 +1,411 @@
+//! The conversion there and back, the rings, the changes, and that a wrong
+//! verdict is found out.
+
+use crate::compare::{compare, Cases, Sums};
+use crate::damage::KINDS;
+use crate::expected;
+use crate::layout::*;
+use crate::rings::Rings;
+use second_model::generate::{record_named, Random};
+use second_model::ring::{
+    ChannelNumber, NodeNumber, Record, Ring, ANSWERING, ASKING, CHANNELS, NODES, READY, RESTING,
+};
+use std::sync::OnceLock;
+
+const SEED: u64 = 1978;
+const RINGS: u64 = 60_000;
+
+fn laid_out(ring: &Ring) -> Bytes {
+    // Every byte is written, whatever was there.
+    let mut bytes = [0xA5; LENGTH];
+    lay_out(ring, &mut bytes);
+    bytes
+}
+
+/// Two nodes, a channel from 1 to 0 that is asking in line, and its offer.
+fn asking() -> Ring {
+    let mut ring = Ring::fresh();
+    ring.add_node(1).unwrap();
+    ring.add_node(2).unwrap();
+    ring.add_channel(NodeNumber(1), NodeNumber(0)).unwrap();
+    ring.start().unwrap();
+    ring.receive(ChannelNumber(0)).unwrap();
+    ring.send(ChannelNumber(0), &record_named(b"A1")).unwrap();
+    ring
+}
+
+/// The same, with the record carried in the buffer of node 1.
+fn answering() -> Ring {
+    let mut ring = asking();
+    ring.enter_at(NodeNumber(0)).unwrap();
+    ring.move_at(NodeNumber(0)).unwrap();
+    ring.enter_at(NodeNumber(1)).unwrap();
+    ring
+}
+
+// ---- The layout.
+
+#[test]
+fn the_parts_lie_one_behind_the_other() {
+    let mut place = 0;
+    for part in &PARTS {
+        assert_eq!(part.first, place, "{}", part.name);
+        place = part.end();
+    }
+    assert_eq!(place, LENGTH);
+    assert_eq!(LENGTH, 7_496);
+    assert_eq!(SLOTS, 328, "the head");
+}
+
+/// 01's record: the bytes of the send on its own tape.
+fn record_of_01() -> [u8; RECORD] {
+    let mut bytes = [0; RECORD];
+    bytes[..10].copy_from_slice(&[0x07, 0, 0, 0, 0x03, 0x64, 0x02, 0x02, 0x41, 0x31]);
+    bytes
+}
+
+#[test]
+fn rings_laid_out_by_hand() {
+    assert_eq!(laid_out(&Ring::fresh()), [0; LENGTH]);
+    let mut by_hand = [0; LENGTH];
+    by_hand[..8].copy_from_slice(&[0, 0, 0, 0, 1, 2, 1, 0]);
+    by_hand[8..10].copy_from_slice(&[1, 2]);
+    by_hand[40] = 1;
+    by_hand[72] = 1;
+    by_hand[200] = ASKING;
+    by_hand[264] = 1;
+    by_hand[1352] = 1;
+    by_hand[2376..2416].copy_from_slice(&record_of_01());
+    assert_eq!(laid_out(&asking()), by_hand);
+    by_hand[40] = 0;
+    by_hand[25] = 1;
+    by_hand[200] = ANSWERING;
+    by_hand[264] = 0;
+    by_hand[328 + 64] = 1;
+    by_hand[1352] = 0;
+    by_hand[2376..2416].fill(0);
+    by_hand[4936..4976].copy_from_slice(&record_of_01());
+    assert_eq!(laid_out(&answering()), by_hand);
+}
+
+#[test]
+fn there_and_back() {
+    let (mut rings, mut random) = (Rings::new(SEED), Random::new(1));
+    for _ in 0..RINGS {
+        let ring = rings.reach(&mut random);
+        let bytes = laid_out(ring);
+        assert_eq!(read_back(&bytes), *ring);
+        assert!(expected::sound(&bytes), "{ring:?}");
+    }
+}
+
+/// Whatever the bytes, all but the spare byte and the flags of the offers is in
+/// the model's ring.
+#[test]
+fn back_and_there() {
+    let mut cases = Cases::new(SEED);
+    for _ in 0..RINGS {
+        let bytes = cases.draw().bytes;
+        let mut again = laid_out(&read_back(&bytes));
+        let same = again == bytes;
+        again[SPARE] = bytes[SPARE];
+        again[OFFERED..SLOTS].copy_from_slice(&bytes[OFFERED..SLOTS]);
+        assert!(again == bytes);
+        // A ring that the model's types cannot hold is not the same again.
+        assert!(same || !expected::sound(&bytes));
+    }
+}
+
+// ---- The verdict expected.
+
+fn sound_with(ring: &Ring, changes: &[(usize, u8)]) -> bool {
+    let mut bytes = laid_out(ring);
+    for &(at, value) in changes {
+        bytes[at] = value;
+    }
+    expected::sound(&bytes)
+}
+
+#[test]
+fn what_the_model_cannot_hold() {
+    let ring = asking();
+    assert!(sound_with(&ring, &[]));
+    assert!(sound_with(&ring, &[(DELIVERIES, 0xFF)]), "any count of deliveries");
+    assert!(!sound_with(&ring, &[(SPARE, 1)]));
+    assert!(!sound_with(&ring, &[(OFFERED, 0)]), "an offer without its flag");
+    assert!(!sound_with(&ring, &[(OFFERED, 2)]), "a flag that is neither 0 nor 1");
+    assert!(!sound_with(&answering(), &[(OFFERED, 1)]), "a flag without its offer");
+    assert!(!sound_with(&answering(), &[(OFFERED + 1, 1)]), "a flag of no channel");
+    assert!(!sound_with(&ring, &[(OFFERED + 63, 255)]), "a flag of no channel");
+    assert!(!sound_with(&Ring::fresh(), &[(OFFERED + 63, 1)]));
+    assert!(!sound_with(&Ring::fresh(), &[(SPARE, 255)]));
+}
+
+#[test]
+fn what_the_model_judges() {
+    assert!(!sound_with(&asking(), &[(OFFERS, 0)]), "batch number 0");
+    assert!(!sound_with(&asking(), &[(MARKS + 1, 1)]), "a mark without a line");
+    assert!(sound_with(&asking(), &[(MARKS, 1)]), "a mark with a line");
+    assert!(!sound_with(&asking(), &[(STARTED, 2)]));
+    assert!(!sound_with(&answering(), &[(CARRIED + 6, 0x80)]), "the temperature's high byte");
+    assert!(!sound_with(&answering(), &[(LENGTH - 1, 1)]), "the last byte");
+}
+
+// ---- The rings.
+
+#[test]
+fn the_rings_have_everything() {
+    let (mut rings, mut random) = (Rings::new(SEED), Random::new(1));
+    let mut seen = Seen::default();
+    for _ in 0..RINGS {
+        seen.look(rings.reach(&mut random));
+    }
+    assert!(seen.nodes.iter().all(|&seen| seen > 50), "{:?}", seen.nodes);
+    assert!(seen.channels.iter().all(|&seen| seen > 1), "{:?}", seen.channels);
+    assert!(seen.phases.iter().all(|&seen| seen > 10_000), "{:?}", seen.phases);
+    assert!(seen.fresh > 100 && seen.fresh < 3_000, "{}", seen.fresh);
+    assert!(seen.not_started > 1_000, "{}", seen.not_started);
+    assert!(seen.marks > 1_000, "{}", seen.marks);
+    assert!(seen.full_buffers > 10_000 && seen.empty_buffers > 10_000);
+    assert!(seen.long_lines > 1_000, "{}", seen.long_lines);
+    assert!(seen.offers_beside_carried > 1_000, "{}", seen.offers_beside_carried);
+    assert!(seen.same_node_moving > 10_000, "{}", seen.same_node_moving);
+}
+
+/// How often something was there, ring by ring, node by node or channel by
+/// channel.
+struct Seen {
+    nodes: [u32; NODES + 1],
+    channels: [u32; CHANNELS + 1],
+    phases: [u32; 4],
+    fresh: u32,
+    not_started: u32,
+    marks: u32,
+    full_buffers: u32,
+    empty_buffers: u32,
+    long_lines: u32,
+    offers_beside_carried: u32,
+    same_node_moving: u32,
+}
+
+impl Default for Seen {
+    fn default() -> Seen {
+        Seen {
+            nodes: [0; NODES + 1],
+            channels: [0; CHANNELS + 1],
+            phases: [0; 4],
+            fresh: 0,
+            not_started: 0,
+            marks: 0,
+            full_buffers: 0,
+            empty_buffers: 0,
+            long_lines: 0,
+            offers_beside_carried: 0,
+            same_node_moving: 0,
+        }
+    }
+}
+
+impl Seen {
+    fn look(&mut self, ring: &Ring) {
+        let (n, c) = (ring.node_count as usize, ring.channel_count as usize);
+        self.nodes[n] += 1;
+        self.channels[c] += 1;
+        self.fresh += (*ring == Ring::fresh()) as u32;
+        self.not_started += (ring.started == 0) as u32;
+        for node in &ring.nodes[..n] {
+            self.marks += node.turn_mark as u32;
+            self.full_buffers += (node.buffer_length == node.slots) as u32;
+            self.empty_buffers += (node.buffer_length == 0) as u32;
+            self.long_lines += (node.line_length > 5) as u32;
+        }
+        for channel in &ring.channels[..c] {
+            let carried = channel.phase == ANSWERING;
+            let moving = carried || channel.phase == ASKING;
+            self.phases[channel.phase as usize] += 1;
+            self.offers_beside_carried += (carried && channel.offer != Record::NONE) as u32;
+            self.same_node_moving += (moving && channel.sender == channel.receiver) as u32;
+        }
+    }
+}
+
+// ---- The changes.
+
+#[test]
+fn every_change_is_one() {
+    let (mut rings, mut random) = (Rings::new(SEED), Random::new(1));
+    for at in 0..RINGS as usize {
+        let before = laid_out(rings.reach(&mut random));
+        let mut bytes = before;
+        let kind = &KINDS[at % KINDS.len()];
+        let changed = (kind.change)(&mut bytes, &mut random);
+        // Rings drawn as a whole may be as they were; no other change may.
+        assert!(at % KINDS.len() < crate::damage::WHOLE || changed == (bytes != before));
+    }
+}
+
+/// The kinds that leave no ring sound when they are the only change.
+const NEVER_SOUND: [&str; 12] = [
+    "every byte FF",
+    "every byte drawn",
+    "a byte beyond the nodes or channels",
+    "the spare byte",
+    "the count of nodes",
+    "the length of a buffer or line",
+    "the flag of an offer",
+    "a cell of a queue drawn",
+    "a cell behind a queue",
+    "a message doubled",
+    "a message lost",
+    "a message put in",
+];
+
+#[test]
+fn kinds_that_leave_no_ring_sound() {
+    let sums = stand_in();
+    for (kind, sum) in KINDS.iter().zip(&sums.kinds) {
+        assert!(sum.alone > 50, "{}: {}", kind.name, sum.alone);
+        let never = NEVER_SOUND.contains(&kind.name);
+        assert_eq!(sum.sound == 0, never, "{}: {} of {}", kind.name, sum.sound, sum.alone);
+        let always = kind.name == "every byte 0";
+        assert_eq!(sum.sound == sum.alone, always, "{}", kind.name);
+    }
+}
+
+// ---- The comparison.
+
+fn model(bytes: &Bytes) -> u8 {
+    expected::sound(bytes) as u8
+}
+
+/// The comparison with the verdict expected in place of the proved one, made
+/// once for all tests.
+fn stand_in() -> Sums {
+    static SUMS: OnceLock<Sums> = OnceLock::new();
+    SUMS.get_or_init(|| compare(RINGS, SEED, model).expect("no difference")).clone()
+}
+
+#[test]
+fn the_model_agrees_with_itself() {
+    let sums = stand_in();
+    assert_eq!(sums.rings, RINGS);
+    assert_eq!(sums.changes.iter().sum::<u64>(), RINGS);
+    assert!(sums.changes.iter().all(|&rings| rings > RINGS * 24 / 100), "{:?}", sums.changes);
+    assert_eq!(sums.faults(), Vec::<String>::new());
+}
+
+#[test]
+fn the_same_seed_draws_the_same_rings() {
+    let [mut one, mut two, mut other] = [SEED, SEED, SEED + 1].map(Cases::new);
+    let mut differ = false;
+    for _ in 0..2_000 {
+        let bytes = one.draw().bytes;
+        assert!(bytes == two.draw().bytes);
+        differ |= bytes != other.draw().bytes;
+    }
+    assert!(differ);
+}
+
+#[test]
+fn too_little_compared_is_a_fault() {
+    assert!(!Sums::new().faults().is_empty(), "no ring");
+    let few = compare(10, SEED, model).expect("no difference");
+    assert!(!few.faults().is_empty(), "kinds never made");
+    let mut sums = stand_in();
+    sums.kinds[7].made = 0;
+    assert_eq!(sums.faults(), ["never made: the spare byte"]);
+    let mut sums = Sums { sound: RINGS / 5 - 1, ..stand_in() };
+    assert_eq!(sums.faults().len(), 1, "too few are sound");
+    sums.sound = RINGS - RINGS / 5 + 1;
+    assert_eq!(sums.faults().len(), 1, "too few are unsound");
+    sums.sound = RINGS / 5;
+    assert!(sums.faults().is_empty());
+}
+
+fn assert_found_out(slip: &str, verdict: impl Fn(&Bytes) -> u8) {
+    let Err(text) = compare(RINGS, SEED, verdict) else {
+        panic!("not found out: {slip}");
+    };
+    assert!(text.starts_with("seed 1978, ring "), "{text}");
+}
+
+#[test]
+fn wrong_verdicts_are_found_out() {
+    assert_found_out("all are sound", |_| 1);
+    assert_found_out("none is sound", |_| 0);
+    assert_found_out("the other way round", |bytes| 1 - model(bytes));
+    assert_found_out("a sound ring is 255", |bytes| model(bytes).wrapping_neg());
+    assert_found_out("an unsound ring is 2", |bytes| 2 - model(bytes));
+    assert_found_out("the flags of the offers", |bytes| read_back(bytes).sound() as u8);
+}
+
+/// Tests that do not look at some byte: each judges the ring as if there were 0.
+#[test]
+fn a_byte_not_looked_at_is_found_out() {
+    // The bytes of a record are alike by channel, as the cells are by node.
+    let edges = [0, 8, 39].map(|at| [OFFERS + at, CARRIED + at]);
+    let head = (STARTED..SLOTS).filter(|at| *at < CAPACITY || at % 13 == 0);
+    let cells = [SLOTS, SLOTS + 1, LINES - 1, LINES, LINES + 1, OFFERS - 1];
+    for at in head.chain(cells).chain(edges.into_iter().flatten()) {
+        let verdict = |bytes: &Bytes| {
+            let mut other = *bytes;
+            other[at] = 0;
+            model(&other)
+        };
+        assert_found_out(&format!("byte {at}"), verdict);
+    }
+}
+
+/// Tests that leave one clause out, so that a ring with this fault alone is
+/// sound for them.
+#[test]
+fn a_clause_left_out_is_found_out() {
+    assert_slip("no mark without a line", |ring| {
+        ring.nodes.iter_mut().filter(|node| node.line_length == 0).for_each(|node| {
+            node.turn_mark = 0;
+        })
+    });
+    assert_slip("a ready channel has no offer", |ring| {
+        for channel in ring.channels.iter_mut().filter(|channel| channel.phase == READY) {
+            channel.offer = Record::NONE;
+        }
+    });
+    assert_slip("count 0 before the start", |ring| {
+        if ring.started == 0 {
+            ring.deliveries = 0;
+        }
+    });
+    assert_slip("nothing carried but by an answering channel", |ring| {
+        for channel in ring.channels.iter_mut().filter(|channel| channel.phase == RESTING) {
+            channel.carried = Record::NONE;
+        }
+    });
+    assert_slip("no buffer longer than its slots", |ring| {
+        for node in &mut ring.nodes {
+            node.slots = node.slots.max(node.buffer_length.min(64));
+        }
+    });
+    assert_slip("at most 64 slots", |ring| {
+        for node in &mut ring.nodes {
+            node.slots = node.slots.min(64);
+        }
+    });
+    assert_slip("b greater than c", |ring| {
+        if ring.started == 1 && ring.nodes[0].slots != 0 {
+            ring.nodes[0].slots = ring.nodes[0].slots.max(64);
+        }
+    });
+}
+
+/// Judges rings that the change has mended.
+fn assert_slip(clause: &str, mend: impl Fn(&mut Ring)) {
+    assert_found_out(clause, |bytes| {
+        let mut ring = read_back(bytes);
+        mend(&mut ring);
+        (bytes[SPARE] == 0 && flags_agree(bytes) && ring.sound()) as u8
+    });
+}
+
+fn flags_agree(bytes: &Bytes) -> bool {
+    laid_out(&read_back(bytes))[OFFERED..SLOTS] == bytes[OFFERED..SLOTS]
+}
