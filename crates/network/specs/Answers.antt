@@ -1,17 +1,34 @@
--- What a call answers in code, held against document 01: for each case of the enum its number and its values. Assumes nothing.
+-- A call and its answer in code, held against document 01: which call each case of the enum is, and for each case of the answer its
+-- number and its values. Assumes nothing.
 use Prim.Native.Nat.{ℕ}
 use mathlib.Core.Path.{_≡_}
+use mathlib.Core.Bool.{Bool, true, false}
+use mathlib.Core.Option.{Option}
 use Rattle.refusal.specs.declared.Refusal.{Refusal}
 use Rattle.refusal.specs.Number.{numberOf}
 use Rattle.batch.specs.declared.BatchRecord.{BatchRecord}
 use Rattle.batch.specs.Blank.{noRecord}
 use Rattle.network.specs.declared.Ring.{Ring}
+use Rattle.network.specs.declared.RingCall.{RingCall}
+use Rattle.network.specs.declared.RingCall.the-variants.{AddNode, AddChannel, Start, Receive, Send, Enter, Move, HopsLeft, WaitingSet}
 use Rattle.network.specs.declared.Answer.{Answer}
 use Rattle.network.specs.declared.Answer.the-variants.{Done, Delivered, Hops, Waiting, Refused}
 use Rattle.network.specs.declared.Reply.{Reply}
 use Rattle.network.specs.declared.Step.{Step}
-use Rattle.network.specs.Calls.{Event, done, delivered, hopsAre, waitingAre, Outcome, refused, accepted}
-use Rattle.network.specs.Runs.{after}
+use Rattle.network.specs.Calls.{Event, done, delivered, hopsAre, waitingAre, Delivery, deliveryIn, Outcome, refused, accepted}
+use Rattle.network.specs.Runs.{Call, addNode, addChannel, start, receive, send, enter, move, hopsLeft, waitingSet, after}
+
+-- the ring call that a case of the enum stands for, with the record beside it
+abbrev pub callOf : RingCall → BatchRecord → Call
+callOf (AddNode slots) x = addNode slots
+callOf (AddChannel sender receiver) x = addChannel (sender .0) (receiver .0)
+callOf Start x = start
+callOf (Receive channel) x = receive (channel .0)
+callOf (Send channel) x = send (channel .0) x
+callOf (Enter node) x = enter (node .0)
+callOf (Move node) x = move (node .0)
+callOf (HopsLeft channel) x = hopsLeft (channel .0)
+callOf (WaitingSet node) x = waitingSet (node .0)
 
 -- document 01's number for an answer: that of the refusal, or 0
 abbrev pub numberIn : Answer → ℕ
@@ -28,6 +45,18 @@ valuesIn (Delivered k) x = delivered (k .0) x
 valuesIn (Hops h) x = hopsAre h
 valuesIn (Waiting w) x = waitingAre w
 valuesIn (Refused r) x = done
+
+-- whether an answer is a refusal
+abbrev pub isRefusal : Answer → Bool
+isRefusal Done = false
+isRefusal (Delivered k) = false
+isRefusal (Hops h) = false
+isRefusal (Waiting w) = false
+isRefusal (Refused r) = true
+
+-- the delivery in a reply, if it has one
+abbrev pub deliveredIn : Reply → Option Delivery
+deliveredIn r = deliveryIn (valuesIn (r .answer) (r .delivered))
 
 -- the reply to an outcome: the case of the enum whose number and values are those of the outcome
 abbrev pub eventReply : Event → Reply

@@ -25,6 +25,17 @@ pub data Event : Type 0 where
   hopsAre : ℕ → Event
   waitingAre : ℕ → Event
 
+-- the delivery in an answer, if it has one: the channel and the record
+pub record Delivery : Type 0 where
+  pub channel : ℕ
+  pub «record» : BatchRecord
+
+abbrev pub deliveryIn : Event → Option Delivery
+deliveryIn done = none
+deliveryIn (delivered k x) = some (record { channel = k; «record» = x })
+deliveryIn (hopsAre h) = none
+deliveryIn (waitingAre w) = none
+
 -- a call is refused with one of the numbered refusals, or accepted with its answer and the next ring
 pub data Outcome (S : Type 0) : Type 0 where
   refused : Refusal → Outcome S

@@ -118,6 +118,20 @@ impl Ring {
     }
 }
 
+// The ring calls, with their operands; the record of a send stands beside the call. (It has a name of 32 bytes, which no enum can hold.)
+pub enum RingCall {
+    AddNode(u8),
+    // Sender and receiver.
+    AddChannel(NodeNo, NodeNo),
+    Start,
+    Receive(ChannelNo),
+    Send(ChannelNo),
+    Enter(NodeNo),
+    Move(NodeNo),
+    HopsLeft(ChannelNo),
+    WaitingSet(NodeNo),
+}
+
 // What a call answers: the refusal, or what an accepted call has to say.
 pub enum Answer {
     Done,
