@@ -17,7 +17,7 @@ use Rattle.batch.specs.Blank.{noRecord}
 use Rattle.wire.specs.Record.{recordLength, RecordFits}
 use Rattle.network.specs.Counting.{one, occupied}
 use Rattle.network.specs.Network.{Network, NodeState, ChannelState, Phase, resting, asking, ready, answering, nodeCount, channelCount, noNode, noChannel, node, channel, withNode, withChannel}
-use Rattle.network.specs.Sound.{lastCount}
+use Rattle.network.specs.Sound.{oneMore}
 use Rattle.network.specs.Calls.{joinLine, respond, deliver, leave, pass}
 use Rattle.network.specs.Layout.{nodeRoom, channelRoom, rowLength, row, padded, rows, cellsOf, phaseCode, offeredFlag, offerBytes, carriedBytes, byNode, byChannel, holdHead, hold, withDeliveries, ringIn}
 use Rattle.network.proofs.Rows.{getD-padded, row-end, getD-row, putRow, put-push, cells-pop}
@@ -251,7 +251,7 @@ module _ (σ : Network) (fits : Fits σ) where
     pub handed-out-held : handedOut (hold σ) k ≡ hold (deliver k σ)
     unfolding hold holdHead
     handed-out-held =
-        ap (λ r. ringIn (withDeliveries (r .head) (min (σ .deliveries + 1) lastCount)) (r .slots) (r .lines) (r .offers) (r .carried))
+        ap (λ r. ringIn (withDeliveries (r .head) (oneMore (σ .deliveries))) (r .slots) (r .lines) (r .offers) (r .carried))
         rested-held
 
 -- a message joins a line after a change of its channel

@@ -11,7 +11,7 @@ use Rattle.wire.specs.Bytes.{overwritten}
 use Rattle.wire.specs.Record.{recordLength, recordBytes}
 use Rattle.network.specs.declared.Head.{Head}
 use Rattle.network.specs.declared.Ring.{Ring}
-use Rattle.network.specs.Sound.{lastCount}
+use Rattle.network.specs.Sound.{oneMore}
 use Rattle.network.specs.Layout.{row, rowLength, withNodes, withChannels, withDeliveries, ringIn}
 
 -- rows
@@ -125,7 +125,7 @@ responded r k x = joined (answered r k x) (senderAt (r .head) k) (k + 1)
 -- at rest, and one delivery more is counted
 abbrev pub handedOut : Ring → ℕ → Ring
 handedOut r k =
-    ringIn (withDeliveries (rested r k .head) (min (r .head .deliveries + 1) lastCount)) (r .slots) (r .lines) (r .offers)
+    ringIn (withDeliveries (rested r k .head) (oneMore (r .head .deliveries))) (r .slots) (r .lines) (r .offers)
     (rested r k .carried)
 
 -- the node that takes the message of a channel that is asking or answering

@@ -18,7 +18,7 @@ use Rattle.hops.specs.Hops.{next}
 use Rattle.hops.proofs.Laws
 use Rattle.network.specs.Counting.{one, sum, count}
 use Rattle.network.specs.Network.{Network, Phase, resting, asking, ready, answering, nodeCount, channelCount, node, channel, nextNode, moving, withChannel}
-use Rattle.network.specs.Sound.{Limits, lastCount, isResting, isReady, absent, sound}
+use Rattle.network.specs.Sound.{Limits, lastCount, oneMore, isResting, isReady, absent, sound}
 use Rattle.network.specs.Calls.{Event, done, delivered, Outcome, refused, accepted, unless, Arrival, taken, passing, arrived, arrival, joinLine, respond, takeRequest, deliver, leave, hasSlot, enterFirst, handOver, moveFirst}
 use Rattle.network.specs.Calls
 use Rattle.network.specs.Runs.{Call, call, counts}
@@ -166,6 +166,7 @@ module _ (L : Limits) (σ : Network) (h : Started L σ) where
 
     delivered-there : (x : BatchRecord) → channel σ k .phase ≡ answering x → nextNode σ p ≡ channel σ k .receiver →
         Stepped σ (Runs.move p) (delivered k x) (deliver k (leave p ks σ))
+    unfolding oneMore
     delivered-there x f at =
         stepped _ (did-deliver p k ks x lp e f at)
         (recounted _ (and-then (turn k resting _) left (turned _ k resting _ known))) (omega arith)

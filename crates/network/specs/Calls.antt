@@ -1,7 +1,7 @@
 -- The nine ring calls of document 01, "Steps" and "Refusal by operation": each is a function of its operands and the ring, and
 -- answers the first refusal that applies, or is accepted with an answer and the next ring. That an unsound ring is refused before
 -- all others is said once, where a ring in memory is called (Layout). Assumes nothing.
-use Prim.Native.Nat.{ℕ, zero, suc, _+_, _*_, _^_, min}
+use Prim.Native.Nat.{ℕ, zero, suc, _+_, _*_, _^_}
 use mathlib.Core.Bool.{Bool, true, false, cond, _&&_, _||_, not}
 use mathlib.Core.List.{List, [], _∷_, _++_}
 use mathlib.Core.Option.{Option, none, some}
@@ -16,7 +16,7 @@ use Rattle.batch.specs.Good.{verdictOf}
 use Rattle.hops.specs.Hops.{hops}
 use Rattle.network.specs.Counting.{one, sum, count, occupied}
 use Rattle.network.specs.Network.{Network, NodeState, ChannelState, Phase, resting, asking, ready, answering, nodeCount, channelCount, slotCount, node, channel, nextNode, target, withNode, withChannel, withNewNode, withNewChannel, withStarted, withDeliveries}
-use Rattle.network.specs.Sound.{Limits, lastCount, absent, isResting, isReady}
+use Rattle.network.specs.Sound.{Limits, oneMore, absent, isResting, isReady}
 
 -- what an accepted call answers: nothing more, a delivery with its channel and record, hops left, or a waiting set
 pub data Event : Type 0 where
@@ -76,7 +76,7 @@ takeRequest k (some x) σ = respond k x σ
 
 -- a response is delivered without a slot: the channel rests and the count rises
 abbrev pub deliver : ℕ → Network → Network
-deliver k σ = withDeliveries (min (σ .deliveries + 1) lastCount) (withChannel k resting (channel σ k .offer) σ)
+deliver k σ = withDeliveries (oneMore (σ .deliveries)) (withChannel k resting (channel σ k .offer) σ)
 
 -- the message leaves the buffer of p, where ks stay behind
 abbrev pub leave : ℕ → List ℕ → Network → Network

@@ -1,5 +1,5 @@
 -- Document 01, "A sound ring", clause by clause, as one test that can be run. Assumes nothing.
-use Prim.Native.Nat.{ℕ, zero, suc, _+_}
+use Prim.Native.Nat.{ℕ, zero, suc, _+_, min}
 use mathlib.Core.Bool.{Bool, true, false, cond, _&&_, _||_, not}
 use mathlib.Core.List.{List, [], _∷_}
 use mathlib.Core.Option.{Option, none, some}
@@ -20,6 +20,10 @@ pub record Limits : Type 0 where
 -- the count of deliveries stops here
 abbrev pub lastCount : ℕ
 lastCount = 4294967295
+
+-- a count after one more: it stops at the largest number of 32 bits
+unfoldable pub oneMore : ℕ → ℕ
+oneMore n = min (n + 1) lastCount
 
 abbrev pub absent : Option BatchRecord → Bool
 absent none = true

@@ -9,6 +9,7 @@ use refusal::Refusal;
 use wire;
 ghost use mathlib.Core.Path.{_≡_};
 ghost use Rattle.network.specs.Layout.{freshRing};
+ghost use Rattle.network.specs.Sound.{oneMore};
 
 // The sizes of the arrays: how many nodes and channels there is room for, and how many cells the row of a node has. What document 01
 // allows are the limits of `Ring`, below.
@@ -116,6 +117,16 @@ impl Ring {
             carried: [0; RECORDS],
         }
     }
+}
+
+// A count after one more: it stops at the largest number.
+pub fn one_more(count: u32) -> u32
+    ensures { λ r. ⌜ r ≡ oneMore count ⌝ }
+{
+    if count == 4294967295 {
+        return count;
+    }
+    count + 1
 }
 
 // The ring calls, with their operands; the record of a send stands beside the call. (It has a name of 32 bytes, which no enum can hold.)

@@ -15,12 +15,14 @@ use Rattle.tape.specs.declared.ReadAnswer.the-variants.{Read, End, Refused}
 use Rattle.tape.specs.Tape.{readAt}
 use Rattle.runner.specs.declared.Session.{Session}
 use Rattle.runner.specs.Calls.{callOf, stepRing}
-use Rattle.runner.specs.Session.{longest, beginning, isRefusal, ended, passed, answered, nextIn, next, lines}
-use Rattle.runner.specs.Listing.{byOne, stopping, listingOf, toCome, FromTheBeginning}
+use Rattle.network.specs.Answers.{isRefusal}
+use Rattle.runner.specs.Session.{longest, beginning, ended, passed, answered, nextIn, next, lines}
+use Rattle.network.specs.Sound.{oneMore}
+use Rattle.runner.specs.Listing.{byOne, listingOf, toCome, FromTheBeginning}
 use Rattle.runner.proofs.Lines.{next-too-long, next-after, long-alone}
 
-below : (n : ℕ) → n < 4294967295 → stopping n ≡ n + 1
-unfolding stopping
+below : (n : ℕ) → n < 4294967295 → oneMore n ≡ n + 1
+unfolding oneMore
 below n h = omega arith
 
 -- n more commands can be counted
@@ -31,7 +33,7 @@ record Countable (n : ℕ) (s : Session) : Type 0 where
 
 module _ (tape : List ℕ) where
   answered-same : (n : ℕ) (s : Session) (step : Step) (after : ℕ) → Countable (suc n) s
-      → answered byOne tape s step after ≡ answered stopping tape s step after
+      → answered byOne tape s step after ≡ answered oneMore tape s step after
   answered-same n s step after k =
       let a : s .number < 4294967295 = omega (arith, k .numbered) in
       let b : s .accepted < 4294967295 = omega (arith, k .accepted) in
@@ -39,17 +41,17 @@ module _ (tape : List ℕ) where
       rw (below (s .number) a, below (s .accepted) b, below (s .refused) c)
 
   same-in : (n : ℕ) (s : Session) (a : ReadAnswer) (c : Command) → Countable (suc n) s
-      → nextIn byOne tape s a c ≡ nextIn stopping tape s a c
+      → nextIn byOne tape s a c ≡ nextIn oneMore tape s a c
   same-in n s (Read after) c k = answered-same n s (stepRing (callOf c) (s .ring)) after k
   same-in n s End c k = refl
   same-in n s (Refused r) c k = answered-same n s (stepOf (s .ring) (refused r)) (length tape) k
 
-  next-same : (n : ℕ) (s : Session) → Countable (suc n) s → next byOne tape s ≡ next stopping tape s
+  next-same : (n : ℕ) (s : Session) → Countable (suc n) s → next byOne tape s ≡ next oneMore tape s
   next-same n s k =
-      by-less longest (length tape) (λ h. next-too-long byOne tape s h ∙ sym (next-too-long stopping tape s h)) λ h.
+      by-less longest (length tape) (λ h. next-too-long byOne tape s h ∙ sym (next-too-long oneMore tape s h)) λ h.
       next-after byOne tape s (readAt tape (s .place)) h refl
       ∙ same-in n s (readAt tape (s .place) .answer) (readAt tape (s .place) .command) k
-      ∙ sym (next-after stopping tape s (readAt tape (s .place)) h refl)
+      ∙ sym (next-after oneMore tape s (readAt tape (s .place)) h refl)
 
   answered-countable : (n : ℕ) (s : Session) (step : Step) (after : ℕ) → Countable (suc n) s → Countable n (passed byOne s step after)
   answered-countable n s step after k =
@@ -76,7 +78,7 @@ module _ (tape : List ℕ) where
       rw (next-after byOne tape s (readAt tape (s .place)) h refl)
       (countable-in n s (readAt tape (s .place) .answer) (readAt tape (s .place) .command) k)
 
-  lines-same : (n : ℕ) (s : Session) → Countable n s → lines byOne n tape s ≡ lines stopping n tape s
+  lines-same : (n : ℕ) (s : Session) → Countable n s → lines byOne n tape s ≡ lines oneMore n tape s
   unfolding lines
   lines-same zero s k = refl
   lines-same (suc n) s k =
@@ -85,5 +87,5 @@ module _ (tape : List ℕ) where
 pub from-the-beginning : FromTheBeginning
 unfolding toCome listingOf
 from-the-beginning tape =
-    by-less longest (length tape) (λ h. long-alone stopping tape h ∙ sym (long-alone byOne tape h)) λ h.
+    by-less longest (length tape) (λ h. long-alone oneMore tape h ∙ sym (long-alone byOne tape h)) λ h.
     sym (lines-same tape (length tape + 2) beginning (record { numbered = omega arith; accepted = omega arith; refused = omega arith }))

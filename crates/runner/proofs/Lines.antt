@@ -24,7 +24,8 @@ use Rattle.listing.specs.Line.{lineOf, endOf, tooLong}
 use Rattle.runner.specs.declared.Session.{Session}
 use Rattle.runner.specs.Calls.{callOf, stepRing}
 use Rattle.runner.specs.Session.{longest, beginning, ended, lastLine, answered, nextIn, next, lines, afterLines, allLines}
-use Rattle.runner.specs.Listing.{byOne, stopping, listingOf, toCome, TooLongAlone, NothingAfter, LineByLine, NotCut}
+use Rattle.network.specs.Sound.{oneMore}
+use Rattle.runner.specs.Listing.{byOne, listingOf, toCome, TooLongAlone, NothingAfter, LineByLine, NotCut}
 
 -- what a reading says of the place after it
 
@@ -194,11 +195,11 @@ not-cut up tape s (suc n) =
 
 pub nothing-after : NothingAfter
 unfolding toCome
-nothing-after tape s e = none-over stopping tape s (length tape + 2) e
+nothing-after tape s e = none-over oneMore tape s (length tape + 2) e
 
 pub line-by-line : LineByLine
 unfolding toCome
-line-by-line tape s e = by-line stopping tape s e
+line-by-line tape s e = by-line oneMore tape s e
 
 pub long-alone : (up : ℕ → ℕ) (tape : List ℕ) → longest < length tape → allLines up tape beginning ≡ tooLong
 long-alone up tape h =

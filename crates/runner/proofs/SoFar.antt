@@ -14,7 +14,8 @@ use Rattle.listing.specs.Line.{lineRoom}
 use Rattle.runner.specs.declared.Session.{Session}
 use Rattle.runner.specs.declared.Progress.{Progress}
 use Rattle.runner.specs.Session.{Printed, next, lines, afterLines}
-use Rattle.runner.specs.Listing.{stopping, toCome}
+use Rattle.network.specs.Sound.{oneMore}
+use Rattle.runner.specs.Listing.{toCome}
 use Rattle.runner.specs.Run.{Ran, Placed, Printing, finished, PrintsTheListing}
 use Rattle.runner.specs.Run
 use Rattle.runner.proofs.Lines.{nothing-after, line-by-line, some-line, last-session, last-line}
@@ -23,8 +24,8 @@ use Rattle.runner.proofs.Counts.{from-the-beginning}
 -- the loop's invariant: the buffer and the session where the run began, and as they are now
 pub record SoFar (tape before : List ℕ) (first : Session) (out : List ℕ) (current : Session) (written : ℕ) : Type 0 where
   pub count : ℕ
-  pub reached : current ≡ afterLines stopping count tape first
-  pub printed : take written out ≡ lines stopping count tape first
+  pub reached : current ≡ afterLines oneMore count tape first
+  pub printed : take written out ≡ lines oneMore count tape first
   pub same : length out ≡ length before
   pub within : written ≤ length before
   pub text : take written out ++ toCome tape current ≡ toCome tape first
@@ -70,11 +71,11 @@ pub record Turned (printed : Printed) (at : ℕ) (before after : List ℕ) (s : 
   pub line : Placed (printed .line) at before after end
 
 module _ {tape before : List ℕ} {first : Session} {out : List ℕ} {s : Session} {at : ℕ} (h : SoFar tape before first out s at)
-    (e : s .over ≡ false) {after : List ℕ} {s' : Session} {end : ℕ} (t : Turned (next stopping tape s) at out after s' end) where
+    (e : s .over ≡ false) {after : List ℕ} {s' : Session} {end : ℕ} (t : Turned (next oneMore tape s) at out after s' end) where
   abbrev size : ℕ
-  size = length (next stopping tape s .line)
+  size = length (next oneMore tape s .line)
 
-  on : afterLines stopping (h .count) tape first .over ≡ false
+  on : afterLines oneMore (h .count) tape first .over ≡ false
   on = sym (ap (λ (x : Session). x .over) (h .reached)) ∙ e
 
   -- one line more
@@ -83,13 +84,13 @@ module _ {tape before : List ℕ} {first : Session} {out : List ℕ} {s : Sessio
     count = suc (h .count);
     reached =
         t .session
-        ∙ ap (λ (x : Session). next stopping tape x .session) (h .reached)
-        ∙ sym (last-session stopping tape (h .count) first on);
+        ∙ ap (λ (x : Session). next oneMore tape x .session) (h .reached)
+        ∙ sym (last-session oneMore tape (h .count) first on);
     printed =
         front (t .line)
-        ∙ ap (λ (l : List ℕ). l ++ next stopping tape s .line) (h .printed)
-        ∙ ap (λ (x : Session). lines stopping (h .count) tape first ++ next stopping tape x .line) (h .reached)
-        ∙ sym (last-line stopping tape (h .count) first on);
+        ∙ ap (λ (l : List ℕ). l ++ next oneMore tape s .line) (h .printed)
+        ∙ ap (λ (x : Session). lines oneMore (h .count) tape first ++ next oneMore tape x .line) (h .reached)
+        ∙ sym (last-line oneMore tape (h .count) first on);
     same = as-long (t .line) ∙ h .same;
     within = omega (arith, t .line .within, h .same);
     text = rw (front (t .line), append-assoc, t .session, ← (line-by-line tape s e)) (h .text);
@@ -99,12 +100,12 @@ module _ {tape before : List ℕ} {first : Session} {out : List ℕ} {s : Sessio
         ∙ ap (drop size) (h .rest)
         ∙ drop-drop size at before
         ∙ ap (λ (n : ℕ). drop n before) (sym (t .line .ends));
-    start = λ z. let no : ⊥ = omega (arith, t .line .ends, some-line stopping tape s) in absurd no;
+    start = λ z. let no : ⊥ = omega (arith, t .line .ends, some-line oneMore tape s) in absurd no;
   }
 
   -- and fewer bytes to come
   pub shorter : length (toCome tape s') < length (toCome tape s)
-  shorter = rw (t .session, line-by-line tape s e, length-append) (omega (arith, some-line stopping tape s))
+  shorter = rw (t .session, line-by-line tape s e, length-append) (omega (arith, some-line oneMore tape s))
 
 -- a run may end where the session is over, or there is less room than for the longest line
 pub ran : {tape before : List ℕ} {first : Session} {out : List ℕ} {s : Session} {at : ℕ} → SoFar tape before first out s at

@@ -12,15 +12,16 @@ use Rattle.listing.specs.declared.Put.the-variants.{Written, NoRoom}
 use Rattle.runner.specs.declared.Session.{Session}
 use Rattle.runner.specs.declared.Progress.{Progress}
 use Rattle.runner.specs.Session.{beginning, lines, afterLines}
-use Rattle.runner.specs.Listing.{listingOf, stopping, toCome}
+use Rattle.network.specs.Sound.{oneMore}
+use Rattle.runner.specs.Listing.{listingOf, toCome}
 
 -- A run of a tape from session s: the next `count` lines, at the front of the buffer, and the session after them; the rest of the buffer
 -- is as it was. The run ends only where the session is over or there is less room than for the longest line, so something is written
 -- where there is room and a line to come. What was written and what is then to come are together what was to come.
 pub record Ran (tape : List ℕ) (s : Session) (before after : List ℕ) (p : Progress) : Type 0 where
   pub count : ℕ
-  pub session : p .session ≡ afterLines stopping count tape s
-  pub printed : take (p .written) after ≡ lines stopping count tape s
+  pub session : p .session ≡ afterLines oneMore count tape s
+  pub printed : take (p .written) after ≡ lines oneMore count tape s
   pub rest : drop (p .written) after ≡ drop (p .written) before
   pub within : p .written ≤ length before
   pub full : p .session .over ≡ false → length before < p .written + lineRoom

@@ -6,11 +6,8 @@ use mathlib.Core.Bool.{Bool, true, false, cond}
 use mathlib.Core.List.{List, [], _++_}
 use lib.Dec.{ltb}
 use lib.ListN.{length, getD}
-use Rattle.network.specs.declared.Answer.{Answer}
-use Rattle.network.specs.declared.Answer.the-variants.{Done, Delivered, Hops, Waiting}
-use Rattle.network.specs.declared.Answer.the-variants as answer
 use Rattle.network.specs.declared.Step.{Step}
-use Rattle.network.specs.Answers.{stepOf}
+use Rattle.network.specs.Answers.{stepOf, isRefusal}
 use Rattle.network.specs.Calls.{refused}
 use Rattle.network.specs.Layout.{freshRing}
 use Rattle.tape.specs.declared.Command.{Command}
@@ -28,14 +25,6 @@ longest = 60000
 -- a run begins with a fresh ring, at the first byte; the first command is number 1
 abbrev pub beginning : Session
 beginning = record { ring = freshRing; place = 0; number = 1; accepted = 0; refused = 0; over = false }
-
--- an answer that is a refusal
-abbrev pub isRefusal : Answer → Bool
-isRefusal Done = false
-isRefusal (Delivered k) = false
-isRefusal (Hops h) = false
-isRefusal (Waiting w) = false
-isRefusal (answer.Refused r) = true
 
 -- a line, and the session after it
 pub record Printed : Type 0 where

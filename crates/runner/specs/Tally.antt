@@ -9,8 +9,8 @@ use Rattle.network.specs.declared.Ring.{Ring}
 use Rattle.runner.specs.declared.Session.{Session}
 use Rattle.runner.specs.declared.Tally.{Tally}
 use Rattle.runner.specs.declared.Turn.{Turn}
-use Rattle.runner.specs.Session.{isRefusal}
-use Rattle.runner.specs.Listing.{stopping}
+use Rattle.network.specs.Answers.{isRefusal}
+use Rattle.network.specs.Sound.{oneMore}
 use Rattle.runner.specs.Run.{Placed}
 
 -- the session of a ring and a tally
@@ -32,9 +32,9 @@ closedTally t = record { place = t .place; number = t .number; accepted = t .acc
 abbrev pub countedTally : Tally → Answer → ℕ → Tally
 countedTally t answer next = record {
   place = next;
-  number = stopping (t .number);
-  accepted = cond (isRefusal answer) (t .accepted) (stopping (t .accepted));
-  refused = cond (isRefusal answer) (stopping (t .refused)) (t .refused);
+  number = oneMore (t .number);
+  accepted = cond (isRefusal answer) (t .accepted) (oneMore (t .accepted));
+  refused = cond (isRefusal answer) (oneMore (t .refused)) (t .refused);
   over = t .over;
 }
 

@@ -19,13 +19,12 @@ ghost use mathlib.Core.Path.{_≡_};
 ghost use Prim.Native.Nat.{_+_, _≤_};
 ghost use lib.ListN.{length, getD};
 ghost use Rattle.network.specs.declared.Ring.{Ring};
-ghost use Rattle.network.specs.Answers.{replyOf};
+ghost use Rattle.network.specs.Answers.{replyOf, isRefusal};
 ghost use Rattle.network.specs.Calls;
 ghost use Rattle.network.specs.Layout.{ringIn, stepIn};
 ghost use Rattle.listing.specs.Line.{lineRoom, lineOf, endOf, tooLong};
 ghost use Rattle.runner.specs.Calls.{callOf, stepRing};
-ghost use Rattle.runner.specs.Session.{beginning, isRefusal};
-ghost use Rattle.runner.specs.Listing.{stopping};
+ghost use Rattle.runner.specs.Session.{beginning};
 ghost use Rattle.runner.specs.Run.{Ran, Placed, endOfPut};
 ghost use Rattle.runner.specs.Tally.{sessionOf, closedTally, countedTally, Told};
 
@@ -81,17 +80,6 @@ impl Session {
             refused: 0,
             over: false,
         }
-    }
-}
-
-// One more, or the largest number.
-fn one_more(count: u32) -> u32
-    ensures { λ r. ⌜ r ≡ stopping count ⌝ }
-{
-    if count == 4294967295 {
-        count
-    } else {
-        count + 1
     }
 }
 
@@ -278,11 +266,11 @@ fn counted(mut tally: Tally, answer: Answer, next: usize) -> Tally
     ensures { λ r. ⌜ r ≡ countedTally tally answer next ⌝ }
 {
     tally.place = next;
-    tally.number = one_more(tally.number);
+    tally.number = network::one_more(tally.number);
     if is_refusal(answer) {
-        tally.refused = one_more(tally.refused);
+        tally.refused = network::one_more(tally.refused);
     } else {
-        tally.accepted = one_more(tally.accepted);
+        tally.accepted = network::one_more(tally.accepted);
     }
     tally
 }

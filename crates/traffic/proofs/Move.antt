@@ -27,7 +27,7 @@ use Rattle.network.specs.Calls.{done, delivered, refused, accepted, Arrival, ta
 use Rattle.network.specs.Calls
 use Rattle.network.specs.Runs
 use Rattle.network.specs.Layout.{ringLimits, nodeRoom, channelRoom, rowLength, cellRoom, row, padded, cellsOf, phaseCode, offeredFlag, offerBytes, carriedBytes, recordAt, view, hold, heldOutcome, callRing, withNodes, withDeliveries, stepIn}
-use Rattle.network.specs.Sound.{lastCount}
+use Rattle.network.specs.Sound.{oneMore}
 use Rattle.network.proofs.Cases.{by-list, by-option, by-phase, by-same, both-ways}
 use Rattle.network.proofs.Counting.{count-same, weigh-cons}
 use Rattle.network.proofs.Tables.{netOf, stateOf}
@@ -349,7 +349,7 @@ module _ {ring : Ring} {p cell : ℕ} (t : Delivers ring p cell) where
 
   pub delivery-made : {h : Head} {x : BatchRecord} {slots carried : List ℕ} {d : ℕ} →
       h ≡ leftHead (ring .head) p → slots ≡ shifted (ring .slots) p → x ≡ recordAt (ring .carried) (cell - 1) →
-      carried ≡ recorded (ring .carried) (cell - 1) noRecord → d ≡ min (h .deliveries + 1) lastCount →
+      carried ≡ recorded (ring .carried) (cell - 1) noRecord → d ≡ oneMore (h .deliveries) →
       stepIn (record { head = withDeliveries (phasedHead h (cell - 1) 0) d; reply = eventReply (delivered (cell - 1) x) }) slots
       (ring .lines)
       (ring .offers)

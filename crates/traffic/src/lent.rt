@@ -15,14 +15,13 @@ use network::Ring;
 use refusal::Refusal;
 use soundness;
 ghost use mathlib.Core.Path.{_≡_};
-ghost use Prim.Native.Nat.{_<_, _+_, min};
+ghost use Prim.Native.Nat.{_<_, _+_};
 ghost use mathlib.Core.Bool.{cond};
 ghost use lib.Dec.{eqb};
 ghost use Rattle.hops.specs.Hops.{next};
 ghost use Rattle.network.specs.Answers.{stepOf};
 ghost use Rattle.network.specs.Layout.{callRing, ringIn, stepIn};
 ghost use Rattle.network.specs.Runs;
-ghost use Rattle.network.specs.Sound.{lastCount};
 ghost use Rattle.change.specs.Flat.{markAfter};
 ghost use Rattle.change.specs.Known.{AtNode, Takes, Delivers, Passes};
 
@@ -220,22 +219,12 @@ fn deliver(
     let record = change::record_of(carried, k);
     change::clear_record(carried, k);
     left.phases[k] = Ring::RESTING;
-    left.deliveries = one_more(left.deliveries);
+    left.deliveries = network::one_more(left.deliveries);
     let reply = Reply {
         answer: Answer::Delivered(ChannelNo(channel)),
         delivered: record,
     };
     HeadStep { head: left, reply }
-}
-
-// The count of deliveries after one more: it stops at the largest number.
-fn one_more(count: u32) -> u32
-    ensures { λ r. ⌜ r ≡ min (count + 1) lastCount ⌝ }
-{
-    if count < 4294967295 {
-        return count + 1;
-    }
-    count
 }
 
 // Anything else passes into the next node's buffer, if a slot is free there and no turn mark is set.

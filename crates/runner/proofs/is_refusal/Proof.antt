@@ -8,7 +8,7 @@ use borrow.Author.Needs.{needs}
 use Rattle.network.specs.declared.Answer.{Answer}
 use Rattle.network.specs.declared.Answer.the-variants.{Done, Delivered, Hops, Waiting, Refused}
 use Rattle.network.proofs.Answer.{the-type}
-use Rattle.runner.specs.Session.{isRefusal}
+use Rattle.network.specs.Answers.{isRefusal}
 use Rattle.runner.proofs.is_refusal.Statement.{statement}
 use Rattle.runner.proofs.is_refusal.Tie as tie
 
