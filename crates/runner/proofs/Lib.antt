@@ -4,3 +4,4 @@ pub mod Lines
 pub mod Counts
 pub mod SoFar
 pub mod Turns
+pub mod TapeRun

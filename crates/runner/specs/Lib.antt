@@ -6,3 +6,4 @@ pub mod Session
 pub mod Listing
 pub mod Run
 pub mod Tally
+pub mod TapeRun
