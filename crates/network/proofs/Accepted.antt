@@ -29,7 +29,7 @@ use Rattle.network.proofs.Joined.{resting-is, ready-is, absent-is}
 use Rattle.hops.proofs.Laws.{next-below}
 use Rattle.network.proofs.State.{Net, State, Sound, Did, did-receive, did-offer, did-answer, did-enter, did-pass, did-ask, did-respond, did-deliver, targetIn, turn, join, pop, pass}
 use Rattle.network.proofs.Tables.{netOf, stateOf, Becomes, and-then, recounted, still-node, turned, joined, popped, passed, pushed}
-use Rattle.network.proofs.Outcomes.{After, not-done, was-done, after-accepted, after-some, if-met, if-good, Silent, silent}
+use Rattle.network.proofs.Outcomes.{After, not-done, was-done, after-some, if-met, if-good, Silent, silent}
 use Rattle.network.proofs.Clauses.{Started, sound-started}
 
 -- an accepted step: it is one of the theory, and what the theory does not see stays within its bounds
@@ -224,7 +224,3 @@ module _ (L : Limits) (σ : Network) (h : Started L σ) where
   call-did (Runs.waitingSet p) =
       if-met (ltb p (nodeCount σ)) _ _ λ l.
       was-done (by-question (silent refl (λ j. refl) (λ j. refl)) refl)
-
-pub accepted-did : (L : Limits) (σ : Network) (a : Call) {e : Event} {τ : Network} →
-    sound L σ ≡ true → σ .started ≡ true → call L a σ ≡ accepted e τ → Answered σ a e τ
-accepted-did L σ a ok s eq = after-accepted (subst (After (Answered σ a)) eq (call-did L σ (sound-started L σ ok s) a))

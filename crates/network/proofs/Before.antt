@@ -23,7 +23,7 @@ use Rattle.network.proofs.Counting.{count-same, sum-same, sum-none, sum
 use Rattle.network.proofs.Tests.{all-below, below-all}
 use Rattle.network.proofs.Joined.{all-three, resting-is, absent-is}
 use Rattle.network.proofs.Clauses.{Facts, facts, facts-sound}
-use Rattle.network.proofs.Outcomes.{After, was-done, after-accepted, if-met, Silent, silent}
+use Rattle.network.proofs.Outcomes.{After, was-done, if-met, Silent, silent}
 
 pub record IdleNode (L : Limits) (s : NodeState) : Type 0 where
   pub some-slot : 1 ≤ s .slots
@@ -253,7 +253,3 @@ module _ (L : Limits) (σ : Network) (ok : sound L σ ≡ true) (s : σ .started
   call-before (Runs.waitingSet p) =
       if-met (ltb p (nodeCount σ)) _ _ λ l.
       was-done (built σ (silent refl (λ k. refl) (λ k. refl)) idle s)
-
-pub accepted-before : (L : Limits) (σ : Network) (a : Call) {e : Event} {τ : Network} →
-    sound L σ ≡ true → σ .started ≡ false → call L a σ ≡ accepted e τ → Prepared L a e τ
-accepted-before L σ a ok s eq = after-accepted (subst (After (Prepared L a)) eq (call-before L σ ok s a))

@@ -14,9 +14,7 @@ use Rattle.network.specs.declared.Ring.{Ring}
 use Rattle.network.specs.declared.Head.{Head}
 use Rattle.network.specs.Counting.{one, tabulate}
 use Rattle.network.specs.Network.{Network, NodeState, ChannelState, Phase, resting, nodeCount, channelCount, noNode, noChannel, node, channel, withNode, withChannel, withNewNode, withNewChannel, withStarted}
-use Rattle.network.specs.Layout.{nodeRoom, channelRoom, rowLength, rows, cellsOf, phaseCode, offeredFlag, offerBytes, carriedBytes, holdHead, hold, withNodes, withChannels, ringIn}
-use Rattle.network.specs.Network
-use Rattle.network.specs.Layout
+use Rattle.network.specs.Layout.{nodeRoom, channelRoom, rowLength, rows, cellsOf, phaseCode, offeredFlag, offerBytes, carriedBytes, holdHead, hold, headOf, withNodes, withChannels, ringIn}
 use Rattle.network.proofs.Cases.{by-same, by-less}
 use Rattle.network.proofs.Rows.{tabulate-same, tabulate-put, rows-same, rows-put, putRow, getD-snoc-same}
 use Rattle.network.proofs.Memory.{Fits, OfferFits, CarriedFits}
@@ -84,26 +82,6 @@ module _ {ℓ} {A : Type ℓ} (nothing : A) (n : ℕ) (xs : List A) where
 
     pub cells-snoc-left : (w : ℕ) (f : A → List ℕ) → f s ≡ f nothing → cells w f (xs ++ (s ∷ [])) ≡ cells w f xs
     cells-snoc-left w f e = rows-same w n _ _ (λ i m. getD-snoc-same f xs s nothing i e)
-
--- the head of a ring that shows so
-
-abbrev pub headOf : ℕ → ℕ → ℕ → ℕ → ℕ → List ℕ → List ℕ → List ℕ → List ℕ → List ℕ → List ℕ → List ℕ → List ℕ → Head
-headOf d a n c z cap used waiting marks senders receivers phases offered =
-    record {
-      deliveries = d;
-      started = a;
-      «node_count» = n;
-      «channel_count» = c;
-      spare = z;
-      capacity = cap;
-      used = used;
-      waiting = waiting;
-      marks = marks;
-      senders = senders;
-      receivers = receivers;
-      phases = phases;
-      offered = offered;
-    }
 
 module _ (σ : Network) (fits : Fits σ) where
   -- one node is another with the same slots
@@ -237,7 +215,3 @@ module _ (σ : Network) where
       (hold σ .head .receivers))
   unfolding hold holdHead
   hold-with-started b = refl
-
-  pub hold-with-deliveries : (d : ℕ) → hold (Network.withDeliveries d σ) ≡ withHead (hold σ) (Layout.withDeliveries (hold σ .head) d)
-  unfolding hold holdHead
-  hold-with-deliveries d = refl

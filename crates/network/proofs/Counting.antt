@@ -10,7 +10,7 @@ use native.Mathlib.Omega.{arith}
 use lib.Dec.{eqb, ltb}
 use lib.ListN.{length, length-append}
 use borrow.Author.Tests.{eq-eqb, ne-eqb, eqb-true, eqb-false}
-use Rattle.network.specs.Counting.{one, sum, allBelow, weigh, count, allOf, occupied}
+use Rattle.network.specs.Counting.{one, sum, weigh, count}
 use Rattle.network.proofs.Cases.{by-same, by-less}
 
 -- sums below a bound

@@ -49,44 +49,44 @@ module _ (N : Net) where
   open Net N using (n, c, slots, sender, receiver)
 
   -- where a channel in phase f may stand: in which buffers, in which line
-  abbrev MayPass : Phase → ℕ → ℕ → Type 0
+  abbrev pub MayPass : Phase → ℕ → ℕ → Type 0
   MayPass f p k = (k < c) × (hops n p (targetIn N f k) ≤ hops n (entryIn N f k) (targetIn N f k))
 
-  abbrev MayWait : Phase → ℕ → ℕ → Type 0
+  abbrev pub MayWait : Phase → ℕ → ℕ → Type 0
   MayWait f p k = (k < c) × (p ≡ entryIn N f k)
 
   -- all that stand in xs may stand so at p, in the phases that they have in σ
-  abbrev AllPass : State → ℕ → List ℕ → Type 0
+  abbrev pub AllPass : State → ℕ → List ℕ → Type 0
   AllPass σ p xs = Every (λ k. MayPass (σ .phase k) p k) xs
 
-  abbrev AllWait : State → ℕ → List ℕ → Type 0
+  abbrev pub AllWait : State → ℕ → List ℕ → Type 0
   AllWait σ p xs = Every (λ k. MayWait (σ .phase k) p k) xs
 
   -- a channel may have phase f and offer o
-  record Good (f : Phase) (o : Option BatchRecord) : Type 0 where
-    bare : f ≡ ready → o ≡ none
-    offer : goodOffer o ≡ true
-    carried : goodCarried f ≡ true
+  pub record Good (f : Phase) (o : Option BatchRecord) : Type 0 where
+    pub bare : f ≡ ready → o ≡ none
+    pub offer : goodOffer o ≡ true
+    pub carried : goodCarried f ≡ true
 
   good-bare : {f : Phase} → goodCarried f ≡ true → Good f none
   good-bare carried = record { bare = λ _. refl; offer = refl; carried = carried }
 
-  good-unready : {f : Phase} {o : Option BatchRecord} → isReady f ≡ false → goodOffer o ≡ true → goodCarried f ≡ true → Good f o
+  pub good-unready : {f : Phase} {o : Option BatchRecord} → isReady f ≡ false → goodOffer o ≡ true → goodCarried f ≡ true → Good f o
   good-unready unready offer carried =
       record { bare = λ e. absurd (false≢true (sym unready ∙ ap isReady e)); offer = offer; carried = carried }
 
   -- the clauses of a sound ring that a step can touch, but for `once`
-  record Fit (σ : State) : Type 0 where
-    fits : (p : ℕ) → p < n → length (σ .buffer p) ≤ slots p
-    in-buffer : (p : ℕ) → p < n → AllPass σ p (σ .buffer p)
-    in-line : (p : ℕ) → p < n → AllWait σ p (σ .line p)
-    marked : (p : ℕ) → p < n → σ .mark p ≡ true → occupied (σ .line p) ≡ true
-    good : (k : ℕ) → k < c → Good (σ .phase k) (σ .offer k)
+  pub record Fit (σ : State) : Type 0 where
+    pub fits : (p : ℕ) → p < n → length (σ .buffer p) ≤ slots p
+    pub in-buffer : (p : ℕ) → p < n → AllPass σ p (σ .buffer p)
+    pub in-line : (p : ℕ) → p < n → AllWait σ p (σ .line p)
+    pub marked : (p : ℕ) → p < n → σ .mark p ≡ true → occupied (σ .line p) ≡ true
+    pub good : (k : ℕ) → k < c → Good (σ .phase k) (σ .offer k)
 
   good-of : {σ : State} → Sound N σ → (k : ℕ) → k < c → Good (σ .phase k) (σ .offer k)
   good-of s k l = record { bare = s .ready-bare k l; offer = s .good-offer k l; carried = s .good-carried k l }
 
-  fit-of : {σ : State} → Sound N σ → Fit σ
+  pub fit-of : {σ : State} → Sound N σ → Fit σ
   fit-of s =
       record { fits = s .fits; in-buffer = s .in-buffer; in-line = s .in-line; marked = s .marked; good = good-of s }
 
@@ -128,7 +128,7 @@ module _ (N : Net) where
         good = t .good;
       }
 
-  fit-line : {σ : State} → Fit σ → (p : ℕ) (xs : List ℕ) → AllWait σ p xs →
+  pub fit-line : {σ : State} → Fit σ → (p : ℕ) (xs : List ℕ) → AllWait σ p xs →
       (σ .mark p ≡ true → occupied xs ≡ true) → Fit (withLine p xs σ)
   fit-line {σ} t p xs every mark =
       record {
@@ -141,7 +141,7 @@ module _ (N : Net) where
         good = t .good;
       }
 
-  fit-mark : {σ : State} → Fit σ → (p : ℕ) (b : Bool) → (b ≡ true → occupied (σ .line p) ≡ true) → Fit (withMark p b σ)
+  pub fit-mark : {σ : State} → Fit σ → (p : ℕ) (b : Bool) → (b ≡ true → occupied (σ .line p) ≡ true) → Fit (withMark p b σ)
   fit-mark {σ} t p b mark =
       record {
         fits = t .fits;
@@ -171,16 +171,16 @@ module _ (N : Net) where
       }
 
   -- the ring is sound but for channel k, which stands nowhere
-  record Off (k : ℕ) (σ : State) : Type 0 where
-    fit : Fit σ
-    nowhere : here N σ k ≡ 0
-    others : (j : ℕ) → j < c → j ≢ k → here N σ j ≡ one (moving (σ .phase j))
+  pub record Off (k : ℕ) (σ : State) : Type 0 where
+    pub fit : Fit σ
+    pub nowhere : here N σ k ≡ 0
+    pub others : (j : ℕ) → j < c → j ≢ k → here N σ j ≡ one (moving (σ .phase j))
 
   off-still : {σ : State} → Sound N σ → (k : ℕ) → k < c → moving (σ .phase k) ≡ false → Off k σ
   off-still s k l still = record { fit = fit-of s; nowhere = rw still at (s .once k l); others = λ j m _. s .once j m }
 
   module _ {σ : State} (s : Sound N σ) (p k : ℕ) (ks : List ℕ) (l : p < n) (e : σ .buffer p ≡ k ∷ ks) where
-    first-passes : MayPass (σ .phase k) p k
+    pub first-passes : MayPass (σ .phase k) p k
     first-passes = every-first k e (s .in-buffer p l)
 
     fit-pop : Fit (pop p ks σ)
@@ -192,7 +192,7 @@ module _ (N : Net) where
     here-pop j = load-pop N (standing j) σ p l k ks e
 
     -- the first of a buffer stands nowhere else, so taken out it stands nowhere
-    off-pop : Off k (pop p ks σ)
+    pub off-pop : Off k (pop p ks σ)
     off-pop =
         record {
           fit = fit-pop;
@@ -229,7 +229,7 @@ module _ (N : Net) where
         (λ p l h. absurd (omega (arith, none-at p l)))
 
     -- with no message
-    put-by : moving f ≡ false → Sound N (turn k f o σ)
+    pub put-by : moving f ≡ false → Sound N (turn k f o σ)
     put-by still =
         sound-again s fit-off
         (upd-at (λ j g. j < c → here N σ j ≡ one (moving g)) k f (σ .phase) (λ _. rw still (off .nowhere))

@@ -17,9 +17,6 @@ pub data After (P : Event → Network → Type 0) : Outcome Network → Type 0 w
   was-done : {e : Event} {τ : Network} → P e τ → After P (accepted e τ)
 
 module _ {P : Event → Network → Type 0} where
-  pub after-accepted : {e : Event} {τ : Network} → After P (accepted e τ) → P e τ
-  after-accepted (was-done h) = h
-
   -- behind a refusal only the rings that pass its test matter
   pub if-met : (b : Bool) (r : Refusal) (o : Outcome Network) → (b ≡ true → After P o) → After P (unless b (refused r) o)
   if-met true r o h = h refl

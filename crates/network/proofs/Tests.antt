@@ -9,7 +9,8 @@ use native.Mathlib.Nat.{not-suc-le-zero}
 use native.Mathlib.Omega.{arith}
 use lib.Dec.{eqb, leb}
 use borrow.Author.Tests.{eqb-true, leb-true, eq-eqb, le-leb}
-use Rattle.network.specs.Counting.{allBelow, allOf, weigh, count}
+use Rattle.batch.specs.Good.{every}
+use Rattle.network.specs.Counting.{allBelow, weigh, count}
 use Rattle.network.proofs.Cases.{by-same, and-left, and-right, and-both}
 use Rattle.network.proofs.Counting.{count-same, count-other}
 
@@ -26,18 +27,18 @@ below-all zero f h = refl
 below-all (suc n) f h =
     and-both (allBelow n f) (f n) (below-all n f (λ p l. h p (omega arith))) (h n (omega arith))
 
-pub all-of : (f : ℕ → Bool) (xs : List ℕ) → allOf f xs ≡ true → (k : ℕ) → 0 < count k xs → f k ≡ true
-unfolding allOf weigh
+pub all-of : (f : ℕ → Bool) (xs : List ℕ) → every f xs ≡ true → (k : ℕ) → 0 < count k xs → f k ≡ true
+unfolding weigh
 all-of f [] e k l = absurd (not-suc-le-zero l)
 all-of f (x ∷ xs) e k l =
-    by-same x k (λ same. rw (← same) (and-left (f x) (allOf f xs) e))
-    (λ d. all-of f xs (and-right (f x) (allOf f xs) e) k (omega (arith, count-other x k d)))
+    by-same x k (λ same. rw (← same) (and-left (f x) (every f xs) e))
+    (λ d. all-of f xs (and-right (f x) (every f xs) e) k (omega (arith, count-other x k d)))
 
-pub of-all : (f : ℕ → Bool) (xs : List ℕ) → ((k : ℕ) → 0 < count k xs → f k ≡ true) → allOf f xs ≡ true
-unfolding allOf weigh
+pub of-all : (f : ℕ → Bool) (xs : List ℕ) → ((k : ℕ) → 0 < count k xs → f k ≡ true) → every f xs ≡ true
+unfolding weigh
 of-all f [] h = refl
 of-all f (x ∷ xs) h =
-    and-both (f x) (allOf f xs) (h x (omega (arith, count-same x))) (of-all f xs (λ k l. h k (omega arith)))
+    and-both (f x) (every f xs) (h x (omega (arith, count-same x))) (of-all f xs (λ k l. h k (omega arith)))
 
 -- A test made of tests, read as a statement made of statements: `simp reads at e` and `simp reads` go from one to the other.
 

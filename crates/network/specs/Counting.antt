@@ -34,11 +34,6 @@ weigh f (x ∷ xs) = f x + weigh f xs
 abbrev pub count : ℕ → List ℕ → ℕ
 count k xs = weigh (λ x. one (eqb x k)) xs
 
--- the test passes at every element of a list
-unfoldable pub allOf : (ℕ → Bool) → List ℕ → Bool
-allOf f [] = true
-allOf f (x ∷ xs) = f x && allOf f xs
-
 -- the list has an element
 abbrev pub occupied : List ℕ → Bool
 occupied [] = false

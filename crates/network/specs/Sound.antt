@@ -6,9 +6,9 @@ use mathlib.Core.Option.{Option, none, some}
 use lib.Dec.{leb, ltb, eqb}
 use lib.ListN.{length}
 use Rattle.batch.specs.declared.BatchRecord.{BatchRecord}
-use Rattle.batch.specs.Good.{goodRecord}
+use Rattle.batch.specs.Good.{every, goodRecord}
 use Rattle.hops.specs.Hops.{hops}
-use Rattle.network.specs.Counting.{one, sum, allBelow, allOf, count, occupied}
+use Rattle.network.specs.Counting.{one, sum, allBelow, count, occupied}
 use Rattle.network.specs.Network.{Network, NodeState, ChannelState, Phase, resting, asking, ready, answering, nodeCount, channelCount, slotCount, node, channel, moving, entry, target, timesOn}
 
 -- what a size of ring allows: so many nodes, so many channels, so many slots a node
@@ -70,8 +70,8 @@ soundNode L σ p =
     leb 1 (node σ p .slots)
     && leb (node σ p .slots) (L .slots)
     && leb (length (node σ p .buffer)) (node σ p .slots)
-    && allOf (bufferFits σ p) (node σ p .buffer)
-    && allOf (lineFits σ p) (node σ p .line)
+    && every (bufferFits σ p) (node σ p .buffer)
+    && every (lineFits σ p) (node σ p .line)
     && (not (node σ p .mark) || occupied (node σ p .line))
 
 -- a channel of the ring: its ends are nodes; asking or answering exactly once on the ring, otherwise nowhere; a ready channel has no
