@@ -369,9 +369,9 @@ module _ (N : Net) where
         waiting (split .0) (split .1) (split .2)
         (omega (arith, few, one-most (not (σ .mark p)), ap length (split .2), length-append (split .0) (m ∷ split .1))))
 
-    -- Matched on m with x, m stands somewhere, and the number is at most the bound of document 01.
+    -- Matched on m with x, m stands somewhere, and the number is at most the bound of document 01, with c to spare.
     pub placed : {x : BatchRecord} {σ : State} → Sound N σ → m < c → matchOf N σ m ≡ some x →
-        (P : Place σ) × (Ψ P ≤ (n + 4) * (2 * sum n slots + 2 * (c * n) + 6 * c))
+        (P : Place σ) × (Ψ P + c ≤ (n + 4) * (2 * sum n slots + 2 * (c * n) + 6 * c))
     unfolding Ψ
     placed {x} {σ} s lm match =
         let found = sum-some n (λ p. count m (σ .buffer p) + count m (σ .line p))
