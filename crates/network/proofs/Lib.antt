@@ -5,6 +5,7 @@ pub mod State
 pub mod Load
 pub mod Kept
 pub mod Tests
+pub mod Way
 pub mod Rows
 pub mod Memory
 pub mod Changes

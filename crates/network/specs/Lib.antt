@@ -3,6 +3,7 @@
 pub mod Counting
 pub mod Network
 pub mod Sound
+pub mod Way
 pub mod Calls
 pub mod Runs
 pub mod Demand
