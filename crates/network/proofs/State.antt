@@ -15,7 +15,7 @@ use Rattle.batch.specs.declared.BatchRecord.{BatchRecord}
 use Rattle.batch.specs.Good.{goodRecord}
 use Rattle.hops.specs.Hops.{hops, next}
 use Rattle.network.specs.Counting.{one, sum, count, occupied}
-use Rattle.network.specs.Network.{Phase, resting, asking, ready, answering, moving}
+use Rattle.network.specs.Network.{Phase, resting, asking, ready, answering, moving, fromEnd}
 use Rattle.network.specs.Sound.{isReady, goodOffer, goodCarried}
 use Rattle.network.specs.Calls.{Event, done, delivered}
 use Rattle.network.specs.Runs.{Call, receive, send, enter, move, matchedIn}
@@ -86,16 +86,10 @@ module _ (N : Net) where
 
   -- the node where a message of channel k enters the ring, and the one that takes it, in phase f
   abbrev pub entryIn : Phase → ℕ → ℕ
-  entryIn resting k = receiver k
-  entryIn asking k = receiver k
-  entryIn ready k = sender k
-  entryIn (answering x) k = sender k
+  entryIn f k = fromEnd f (sender k) (receiver k)
 
   abbrev pub targetIn : Phase → ℕ → ℕ
-  targetIn resting k = sender k
-  targetIn asking k = sender k
-  targetIn ready k = receiver k
-  targetIn (answering x) k = receiver k
+  targetIn f k = fromEnd f (receiver k) (sender k)
 
   -- how many times channel k stands in lines and buffers
   abbrev pub here : State → ℕ → ℕ

@@ -115,19 +115,20 @@ moving asking = true
 moving ready = false
 moving (answering x) = true
 
--- The node at which a channel's message enters the ring, and the node that takes it: a request goes from the receiver to the
--- sender, a response from the sender to the receiver.
+-- A request goes from the receiver to the sender, a response from the sender to the receiver: the end of a channel from which its
+-- message comes. With the ends exchanged it is the one to which the message goes.
+abbrev pub fromEnd : Phase → ℕ → ℕ → ℕ
+fromEnd resting sender receiver = receiver
+fromEnd asking sender receiver = receiver
+fromEnd ready sender receiver = sender
+fromEnd (answering x) sender receiver = sender
+
+-- the node at which a channel's message enters the ring, and the node that takes it
 abbrev pub entryOf : ChannelState → Phase → ℕ
-entryOf s resting = s .receiver
-entryOf s asking = s .receiver
-entryOf s ready = s .sender
-entryOf s (answering x) = s .sender
+entryOf s f = fromEnd f (s .sender) (s .receiver)
 
 abbrev pub targetOf : ChannelState → Phase → ℕ
-targetOf s resting = s .sender
-targetOf s asking = s .sender
-targetOf s ready = s .receiver
-targetOf s (answering x) = s .receiver
+targetOf s f = fromEnd f (s .receiver) (s .sender)
 
 abbrev pub entry : Network → ℕ → ℕ
 entry σ k = entryOf (channel σ k) (channel σ k .phase)
