@@ -52,3 +52,7 @@ and-right false b e = absurd (false≢true e)
 
 pub and-both : (a b : Bool) → a ≡ true → b ≡ true → (a && b) ≡ true
 and-both a b ha hb = rw (ha, hb)
+
+-- both parts of a pair under names
+pub both-so {ℓ} : {A B : Type 0} {X : Type ℓ} → A × B → (A → B → X) → X
+both-so parts so = so (parts .0) (parts .1)
