@@ -21,7 +21,7 @@ use Rattle.network.specs.Runs.{Call}
 use Rattle.network.proofs.Cases.{by-same, by-test}
 use Rattle.network.proofs.Counting.{sum-term, count-same, count-other, length-snoc, one-most}
 use Rattle.hops.proofs.Laws.{hops-step, next-below}
-use Rattle.network.proofs.State.{Net, State, Sound, Did, upd, upd-same, upd-other, upd-at, turn, join, pop, push, pass, here, entryIn, targetIn, did-receive, did-offer, did-answer, did-enter, did-pass, did-ask, did-respond, did-deliver}
+use Rattle.network.proofs.State.{Net, State, Sound, Did, upd, upd-same, upd-other, upd-at, turn, join, pop, push, pass, here, entryIn, targetIn, ends-below, did-receive, did-offer, did-answer, did-enter, did-pass, did-ask, did-respond, did-deliver}
 use Rattle.network.proofs.Load.{withBuffer, withLine, withMark, standing, count-cons, count-snoc, count-apart, load-pop, load-join, load-pass, load-push}
 
 -- lists of channels
@@ -107,12 +107,6 @@ module _ (N : Net) where
         good-carried = λ k l. t .good k l .carried;
         more-slots = s .more-slots;
       }
-
-  ends-below : {σ : State} → Sound N σ → (k : ℕ) → k < c → (f : Phase) → (entryIn N f k < n) × (targetIn N f k < n)
-  ends-below s k l resting = (s .receiver-below k l, s .sender-below k l)
-  ends-below s k l asking = (s .receiver-below k l, s .sender-below k l)
-  ends-below s k l ready = (s .sender-below k l, s .receiver-below k l)
-  ends-below s k l (answering x) = (s .sender-below k l, s .receiver-below k l)
 
   -- one table changes
 
@@ -208,7 +202,7 @@ module _ (N : Net) where
         let m : q < n = next-below n p l in
         let target : ℕ = targetIn N (σ .phase k) k in
         let nearer : hops n p target ≡ suc (hops n q target) =
-        hops-step n p target l (ends-below s k (first-passes .0) (σ .phase k) .1) not-there in
+        hops-step n p target l (ends-below N s k (first-passes .0) (σ .phase k) .1) not-there in
         let xs : List ℕ = upd p ks (σ .buffer) q in
         let same : xs ≡ σ .buffer q = upd-other p ks (σ .buffer) q apart in
         let b : Bool = σ .mark q || occupied (σ .line q) in
@@ -239,7 +233,7 @@ module _ (N : Net) where
     put-in : k < c → moving f ≡ true → Sound N (join (entryIn N f k) k (turn k f o σ))
     put-in l goes =
         let p : ℕ = entryIn N f k in
-        let m : p < n = ends-below s k l f .0 in
+        let m : p < n = ends-below N s k l f .0 in
         let more : (j : ℕ) → here N (join p k σ) j ≡ here N σ j + one (eqb k j) = λ j. load-join N (standing j) σ p m k in
         sound-again s
         (fit-line fit-off p (σ .line p ++ (k ∷ []))

@@ -38,6 +38,13 @@ pub upd-at {ℓ ℓ′} : {A : Type ℓ} (P : ℕ → A → Type ℓ′) (p : �
 upd-at P p v f here there q =
     by-same q p (λ e. rw (e, upd-same) here) (λ d. rw (upd-other p v f q d) (there q d))
 
+-- the end that a message comes from is one of the two
+pub end-below : (f : Phase) {n s r : ℕ} → s < n → r < n → fromEnd f s r < n
+end-below resting s r = r
+end-below asking s r = r
+end-below ready s r = s
+end-below (answering x) s r = s
+
 pub record Net : Type 0 where
   pub n : ℕ
   pub c : ℕ
@@ -110,6 +117,10 @@ module _ (N : Net) where
     pub good-offer : (k : ℕ) → k < c → goodOffer (σ .offer k) ≡ true
     pub good-carried : (k : ℕ) → k < c → goodCarried (σ .phase k) ≡ true
     pub more-slots : c < sum n slots
+
+  -- the nodes where a message enters and that takes it are nodes of the ring, whatever its phase
+  pub ends-below : {σ : State} → Sound σ → (k : ℕ) → k < c → (f : Phase) → (entryIn f k < n) × (targetIn f k < n)
+  ends-below s k l f = let sends = s .sender-below k l in let asks = s .receiver-below k l in (end-below f sends asks, end-below f asks sends)
 
   -- An accepted receive, send, enter or move: the call, its answer and the next state.
   pub data Did (σ : State) : Call → Event → State → Type 0 where

@@ -12,9 +12,8 @@ use Rattle.batch.specs.declared.BatchRecord.{BatchRecord}
 use Rattle.network.specs.Counting.{one, sum, count}
 use Rattle.network.specs.Network.{Phase, moving}
 use Rattle.network.specs.Sound.{absent}
-use Rattle.network.proofs.Cases.{by-phase}
 use Rattle.network.proofs.Counting.{sum-same, sum-but, sum-le, sum-add, sum-swap, sum-times, sum-ones, length-counts, length-snoc}
-use Rattle.network.proofs.State.{upd-same, upd-other, Net, State, turn, join, pop, push, pass, entryIn, targetIn, Sound, here}
+use Rattle.network.proofs.State.{upd-same, upd-other, Net, State, turn, join, pop, push, pass, entryIn, targetIn, Sound, ends-below, here}
 
 module _ (N : Net) where
   open Net N using (n, c, slots, sender, receiver)
@@ -141,19 +140,9 @@ module _ (N : Net) where
         sum-times c a (quiet σ),
       )
 
-  -- the nodes where a message enters and that takes it are nodes of the ring
+  -- the ends of a message's way, in the phase that its channel has
   pub entry-below : {σ : State} (k : ℕ) → Sound N σ → k < c → entryIn N (σ .phase k) k < n
-  entry-below {σ} k s l =
-      by-phase (σ .phase k)
-      (λ e. rw e (s .receiver-below k l))
-      (λ e. rw e (s .receiver-below k l))
-      (λ e. rw e (s .sender-below k l))
-      (λ x e. rw e (s .sender-below k l))
+  entry-below {σ} k s l = ends-below N s k l (σ .phase k) .0
 
   pub target-below : {σ : State} (k : ℕ) → Sound N σ → k < c → targetIn N (σ .phase k) k < n
-  target-below {σ} k s l =
-      by-phase (σ .phase k)
-      (λ e. rw e (s .sender-below k l))
-      (λ e. rw e (s .sender-below k l))
-      (λ e. rw e (s .receiver-below k l))
-      (λ x e. rw e (s .receiver-below k l))
+  target-below {σ} k s l = ends-below N s k l (σ .phase k) .1
