@@ -136,8 +136,8 @@ module _ (L : Limits) (σ : Network) (h : Started L σ) where
       if-there p (nodeCount σ) _ _ _ λ lp.
       by-list (node σ p .line) (λ none. rw none not-done) λ k ks e.
       rw e (
-        if-met (hasSlot σ p) _ _ λ room.
-        was-done (stepped _ (did-enter p k ks lp e (ltb-true _ _ room)) (pushed σ p lp k ks) delivery-limit)
+      if-met (hasSlot σ p) _ _ λ room.
+      was-done (stepped _ (did-enter p k ks lp e (ltb-true _ _ room)) (pushed σ p lp k ks) delivery-limit)
       )
 
   -- the first of the buffer of p leaves for the next node
