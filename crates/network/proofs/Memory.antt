@@ -155,31 +155,16 @@ module _ (σ : Network) (fits : Fits σ) where
   node-read : (p : ℕ) → p < nodeCount σ → viewNode (hold σ) p ≡ node σ p
   node-read p l =
       let h = held-node σ p (omega (arith, fits .nodes-fit)) in
-      rw (
-        h .capacity,
-        h .used,
-        h .waiting,
-        h .mark,
-        h .buffer-row,
-        h .line-row,
-        queue-cells rowLength (node σ p .buffer) (fits .buffer-fits p l),
-        queue-cells rowLength (node σ p .line) (fits .line-fits p l),
-        flag-read (node σ p .mark),
-      )
+      let buffer = queue-cells rowLength (node σ p .buffer) (fits .buffer-fits p l) in
+      let line = queue-cells rowLength (node σ p .line) (fits .line-fits p l) in
+      rw (h .capacity, h .used, h .waiting, h .mark, h .buffer-row, h .line-row, buffer, line, flag-read (node σ p .mark))
 
   channel-read : (k : ℕ) → k < channelCount σ → viewChannel (hold σ) k ≡ channel σ k
   channel-read k l =
       let h = held-channel σ k (omega (arith, fits .channels-fit)) in
-      rw (
-        h .sender,
-        h .receiver,
-        h .phase,
-        h .offered,
-        h .offer-row,
-        h .carried-row,
-        phase-read (channel σ k .phase) (fits .carried-fits k l),
-        offer-read (channel σ k .offer) (fits .offer-fits k l),
-      )
+      let phase = phase-read (channel σ k .phase) (fits .carried-fits k l) in
+      let offer = offer-read (channel σ k .offer) (fits .offer-fits k l) in
+      rw (h .sender, h .receiver, h .phase, h .offered, h .offer-row, h .carried-row, phase, offer)
 
   pub view-hold : view (hold σ) ≡ σ
   unfolding view hold holdHead
