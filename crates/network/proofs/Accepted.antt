@@ -30,6 +30,7 @@ use Rattle.hops.proofs.Laws.{next-below}
 use Rattle.network.proofs.State.{Net, State, Sound, Did, did-receive, did-offer, did-answer, did-enter, did-pass, did-ask, did-respond, did-deliver, targetIn, turn, join, pop, pass}
 use Rattle.network.proofs.Tables.{netOf, stateOf, Becomes, and-then, recounted, still-node, turned, joined, popped, passed, pushed}
 use Rattle.network.proofs.Weight.{target-below}
+use Rattle.network.proofs.Kept.{first-passes}
 use Rattle.network.proofs.Outcomes.{After, not-done, was-done, after-some, if-met, if-good, Silent, silent}
 use Rattle.network.proofs.Clauses.{Started, sound-started}
 
@@ -49,18 +50,15 @@ pub data Answered (σ : Network) (a : Call) (e : Event) (τ : Network) : Type 0 
 next-elsewhere : (n p q : ℕ) → p < n → q < n → next n p ≢ q → next n p ≢ p
 next-elsewhere n p q lp lq d e = ⊎-elim (λ last. d (omega arith)) (λ more. omega arith) (Laws.next-cases n p)
 
--- the first of a buffer is a channel of the ring, and its message is under way
+-- the message that is first in a buffer is under way
 module _ (N : Net) (s : State) (t : Sound N s) (p k : ℕ) (ks : List ℕ) (lp : p < N .n) (e : s .buffer p ≡ k ∷ ks) where
   first-in : 0 < count k (s .buffer p)
   first-in = rw (e, weigh-cons) (omega (arith, count-same k))
 
-  first-below : k < N .c
-  first-below = t .in-buffer p lp k first-in .0
-
   pub first-moving : moving (s .phase k) ≡ true
   first-moving =
       by-test (moving (s .phase k)) (λ m. m) λ m.
-      let none-on : sum (N .n) (λ q. count k (s .buffer q) + count k (s .line q)) ≡ 0 = t .once k first-below ∙ ap one m in
+      let none-on : sum (N .n) (λ q. count k (s .buffer q) + count k (s .line q)) ≡ 0 = t .once k (first-passes N t p k ks lp e .0) ∙ ap one m in
       absurd (omega (arith, first-in, sum-term (N .n) p (λ q. count k (s .buffer q) + count k (s .line q)) lp))
 
 -- what becomes of a message under way that reaches node q
@@ -143,7 +141,7 @@ module _ (L : Limits) (σ : Network) (h : Started L σ) where
   -- the first of the buffer of p leaves for the next node
   module _ (p k : ℕ) (ks : List ℕ) (lp : p < nodeCount σ) (e : node σ p .buffer ≡ k ∷ ks) where
     known : k < channelCount σ
-    known = first-below (netOf σ) (stateOf σ) tables p k ks lp e
+    known = first-passes (netOf σ) tables p k ks lp e .0
 
     left : Becomes σ (leave p ks σ) (pop p ks (stateOf σ))
     left = popped σ p lp ks

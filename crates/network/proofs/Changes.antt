@@ -17,6 +17,7 @@ use Rattle.network.specs.Network.{Network, NodeState, ChannelState, Phas
 use Rattle.network.specs.Layout.{nodeRoom, channelRoom, rowLength, rows, cellsOf, phaseCode, offeredFlag, offerBytes, carriedBytes, holdHead, hold, headOf, withNodes, withChannels, ringIn}
 use Rattle.network.proofs.Cases.{by-same, by-less}
 use Rattle.network.proofs.Rows.{tabulate-same, tabulate-put, rows-same, rows-put, putRow, getD-snoc-same}
+use Rattle.network.proofs.Tables.{set-alike}
 use Rattle.network.proofs.Memory.{Fits, OfferFits, CarriedFits}
 
 -- what nodes or channels show in memory, of which there is room for n: numbers, and rows of w cells. One of them is another; one more
@@ -45,10 +46,7 @@ module _ {ℓ} {A : Type ℓ} (nothing : A) (n : ℕ) (xs : List A) where
     -- one that shows the same leaves what is shown
     shows {κ} : {B : Type κ} (f : A → B) → f s ≡ f (getD xs p nothing) → (i : ℕ) →
         f (getD (set xs p s) i nothing) ≡ f (getD xs i nothing)
-    shows f e i =
-        by-same i p
-        (λ here. rw here (ap f (getD-set-same xs p s nothing l) ∙ e))
-        (λ other. ap f (getD-set-other xs p i s nothing other))
+    shows f e i = ap (λ table. table i) (set-alike f xs p s nothing l e)
 
     pub numbers-left : (f : A → ℕ) → f s ≡ f (getD xs p nothing) → numbers f (set xs p s) ≡ numbers f xs
     numbers-left f e = tabulate-same n _ _ (λ i m. shows f e i)

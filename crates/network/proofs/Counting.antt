@@ -10,7 +10,7 @@ use native.Mathlib.Omega.{arith}
 use lib.Dec.{eqb, ltb}
 use lib.ListN.{length, length-append}
 use borrow.Author.Tests.{eq-eqb, ne-eqb, eqb-true, eqb-false}
-use Rattle.network.specs.Counting.{one, sum, weigh, count}
+use Rattle.network.specs.Counting.{one, sum, weigh, count, occupied}
 use Rattle.network.proofs.Cases.{by-same, by-less}
 
 -- sums below a bound
@@ -121,6 +121,11 @@ sum-some (suc n) f l =
     by-less 0 (f n)
     (λ here. (n, omega arith, here))
     (λ nought. let found = sum-some n f (omega arith) in (found .0, omega arith, found .2))
+
+-- a list with something in it is not empty
+pub occupied-split : (xs : List ℕ) (k : ℕ) (ys : List ℕ) → occupied (xs ++ (k ∷ ys)) ≡ true
+occupied-split [] k ys = refl
+occupied-split (x ∷ xs) k ys = refl
 
 pub length-snoc : (xs : List ℕ) (k : ℕ) → length (xs ++ (k ∷ [])) ≡ suc (length xs)
 length-snoc xs k = omega (arith, length-append xs (k ∷ []))

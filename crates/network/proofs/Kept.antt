@@ -19,7 +19,7 @@ use Rattle.network.specs.Sound.{isReady, goodOffer, goodCarried}
 use Rattle.network.specs.Calls.{Event}
 use Rattle.network.specs.Runs.{Call}
 use Rattle.network.proofs.Cases.{by-same, by-test}
-use Rattle.network.proofs.Counting.{sum-term, count-same, count-other, length-snoc, one-most}
+use Rattle.network.proofs.Counting.{sum-term, count-same, count-other, length-snoc, occupied-split, one-most}
 use Rattle.hops.proofs.Laws.{hops-step, next-below}
 use Rattle.network.proofs.State.{Net, State, Sound, Did, upd, upd-same, upd-other, upd-at, turn, join, pop, push, pass, here, entryIn, targetIn, ends-below, did-receive, did-offer, did-answer, did-enter, did-pass, did-ask, did-respond, did-deliver}
 use Rattle.network.proofs.Load.{withBuffer, withLine, withMark, standing, count-cons, count-snoc, count-apart, load-pop, load-join, load-pass, load-push}
@@ -40,10 +40,6 @@ module _ {P : ℕ → Type 0} (k : ℕ) {xs ks : List ℕ} (e : xs ≡ k ∷ ks)
 pub every-snoc : {P : ℕ → Type 0} (k : ℕ) (xs : List ℕ) → P k → Every P xs → Every P (xs ++ (k ∷ []))
 every-snoc k xs last every j l =
     by-same k j (λ e. rw e at last) (λ d. every j (omega (arith, count-snoc j k xs, count-other k j d)))
-
-pub occupied-snoc : (xs : List ℕ) (k : ℕ) → occupied (xs ++ (k ∷ [])) ≡ true
-occupied-snoc [] k = refl
-occupied-snoc (x ∷ xs) k = refl
 
 module _ (N : Net) where
   open Net N using (n, c, slots, sender, receiver)
@@ -238,7 +234,7 @@ module _ (N : Net) where
         sound-again s
         (fit-line fit-off p (σ .line p ++ (k ∷ []))
         (every-snoc k (σ .line p) (l, rw (upd-same k f (σ .phase))) (fit-off .in-line p m))
-        (λ _. occupied-snoc (σ .line p) k))
+        (λ _. occupied-split (σ .line p) k []))
         (upd-at (λ j g. j < c → here N (join p k σ) j ≡ one (moving g)) k f (σ .phase)
         (λ _. rw goes (omega (arith, more k, off .nowhere, count-same k)))
         (λ j d i. omega (arith, more j, off .others j i d, count-apart j k d)))

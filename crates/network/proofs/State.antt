@@ -6,7 +6,7 @@ use mathlib.Core.Path.{_≡_, refl}
 use mathlib.Core.Logic.{_≢_}
 use mathlib.Core.Bool.{Bool, true, false, cond, _||_}
 use mathlib.Core.List.{List, [], _∷_, _++_}
-use mathlib.Core.Option.{Option, none, some}
+use mathlib.Core.Option.{Option, none, some, Option·none-ne-some}
 use lib.Dec.{eqb}
 use lib.ListN.{length}
 use borrow.Author.Tests.{eq-eqb, ne-eqb}
@@ -161,3 +161,10 @@ module _ (N : Net) where
   -- the record matched on channel m
   abbrev pub matchOf : State → ℕ → Option BatchRecord
   matchOf σ m = matchedIn (σ .phase m) (σ .offer m)
+
+-- a channel on which a record is matched has its message on the ring
+pub matched-moving : (f : Phase) (o : Option BatchRecord) (x : BatchRecord) → matchedIn f o ≡ some x → moving f ≡ true
+matched-moving resting o x e = absurd (Option·none-ne-some x e)
+matched-moving asking o x e = refl
+matched-moving ready o x e = absurd (Option·none-ne-some x e)
+matched-moving (answering y) o x e = refl
