@@ -4,7 +4,7 @@ use Prim.Native.Nat.{ℕ, _+_, _≤_, _<_}
 use mathlib.Core.Path.{_≡_, refl, sym, ap, subst, _∙_}
 use mathlib.Core.Logic.{_≢_, ⊎-elim}
 use mathlib.Core.Bool.{Bool, true, false, false≢true, cond, not}
-use mathlib.Core.List.{List, [], _∷_}
+use mathlib.Core.List.{List, _∷_}
 use mathlib.Core.Option.{Option, none, some}
 use native.Mathlib.Omega.{arith}
 use lib.Dec.{ltb}
@@ -18,8 +18,8 @@ use Rattle.hops.specs.Hops.{next}
 use Rattle.hops.proofs.Laws
 use Rattle.network.specs.Counting.{one, sum, count}
 use Rattle.network.specs.Network.{Network, Phase, resting, asking, ready, answering, nodeCount, channelCount, node, channel, nextNode, moving, withChannel}
-use Rattle.network.specs.Sound.{Limits, lastCount, oneMore, isResting, isReady, absent, sound}
-use Rattle.network.specs.Calls.{Event, done, delivered, Outcome, refused, accepted, unless, Arrival, taken, passing, arrived, arrival, joinLine, respond, takeRequest, deliver, leave, hasSlot, enterFirst, handOver, moveFirst}
+use Rattle.network.specs.Sound.{Limits, lastCount, oneMore, isResting, isReady, absent}
+use Rattle.network.specs.Calls.{Event, done, delivered, Outcome, refused, unless, Arrival, taken, passing, arrived, arrival, joinLine, respond, takeRequest, deliver, leave, hasSlot, handOver}
 use Rattle.network.specs.Calls
 use Rattle.network.specs.Runs.{Call, call, counts}
 use Rattle.network.specs.Runs
@@ -32,7 +32,7 @@ use Rattle.network.proofs.Tables.{netOf, stateOf, Becomes, and-then, re
 use Rattle.network.proofs.Weight.{target-below}
 use Rattle.network.proofs.Kept.{first-passes}
 use Rattle.network.proofs.Outcomes.{After, not-done, was-done, after-some, if-met, if-good, Silent, silent}
-use Rattle.network.proofs.Clauses.{Started, sound-started}
+use Rattle.network.proofs.Clauses.{Started}
 
 -- an accepted step: it is one of the theory, and what the theory does not see stays within its bounds
 pub record Stepped (σ : Network) (a : Call) (e : Event) (τ : Network) : Type 0 where

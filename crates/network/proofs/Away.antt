@@ -1,12 +1,12 @@
 -- How far a node is behind another in ring order, from 0 to n - 1, and how that changes when the one or the other goes on to the next
 -- node. Each law is arithmetic once the tests in the definitions are decided. Assumes nothing.
 use Prim.Native.Nat.{ℕ, suc, _+_, _-_, _≤_, _<_}
-use mathlib.Core.Path.{_≡_, refl}
+use mathlib.Core.Path.{_≡_}
 use mathlib.Core.Logic.{_≢_, ⊎-elim}
 use mathlib.Core.Bool.{cond}
 use native.Mathlib.Omega.{arith}
-use lib.Dec.{eqb, leb}
-use borrow.Author.Tests.{eqb-true, eqb-false, leb-true, leb-false}
+use lib.Dec.{leb}
+use borrow.Author.Tests.{leb-true, leb-false}
 use Rattle.hops.specs.Hops.{next}
 use Rattle.hops.proofs.Laws
 use Rattle.network.proofs.Cases.{by-test}

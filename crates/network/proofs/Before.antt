@@ -3,19 +3,19 @@
 use Prim.Native.Nat.{ℕ, _+_, _≤_, _<_}
 use mathlib.Core.Path.{_≡_, refl, sym, ap, subst, _∙_}
 use mathlib.Core.Logic.{_↔_}
-use mathlib.Core.Bool.{Bool, true, false, cond, _&&_, not}
+use mathlib.Core.Bool.{true, false, cond, _&&_, not}
 use mathlib.Core.List.{List, [], _∷_, _++_}
 use mathlib.Core.Option.{none, some}
 use native.Mathlib.Omega.{arith}
 use lib.Dec.{leb, ltb, eqb}
 use lib.ListN.{length, getD, length-append, List·getD-append, List·getD-eq-default}
 use lib.Seq.{getD-append-seam}
-use borrow.Author.Tests.{ltb-true, leb-true, le-leb, eqb-true, eq-eqb, not-true}
+use borrow.Author.Tests.{ltb-true, leb-true, le-leb}
 use Rattle.refusal.specs.declared.Refusal.{Refusal}
 use Rattle.network.specs.Counting.{one, allBelow, weigh, count}
 use Rattle.network.specs.Network.{Network, NodeState, ChannelState, resting, fresh, nodeCount, channelCount, slotCount, node, channel, moving, noNode, noChannel, timesOn}
-use Rattle.network.specs.Sound.{Limits, isResting, absent, soundBefore, soundAfter, sound}
-use Rattle.network.specs.Calls.{Event, Outcome, refused, accepted, unless}
+use Rattle.network.specs.Sound.{Limits, soundBefore, soundAfter, sound}
+use Rattle.network.specs.Calls.{Event, Outcome, refused, unless}
 use Rattle.network.specs.Calls
 use Rattle.network.specs.Runs.{Call, call}
 use Rattle.network.specs.Runs

@@ -6,13 +6,11 @@ use mathlib.Core.Path.{_≡_, refl}
 use mathlib.Core.Logic.{_↔_}
 use mathlib.Core.Bool.{true, cond}
 use mathlib.Core.Option.{none}
-use lib.Dec.{ltb}
 use lib.ListN.{length}
-use borrow.Author.Tests.{ltb-true, lt-ltb, leb-true, le-leb, eqb-true, eq-eqb}
 use Rattle.hops.specs.Hops.{hops}
 use Rattle.network.specs.Counting.{one, count, occupied}
-use Rattle.network.specs.Network.{Network, Phase, resting, asking, ready, answering, nodeCount, channelCount, slotCount, node, channel, moving, entryOf, targetOf, timesOn}
-use Rattle.network.specs.Sound.{Limits, lastCount, absent, isReady, goodOffer, goodCarried, lineFits, bufferFits, soundNode, soundChannel, soundBefore, soundAfter, sound}
+use Rattle.network.specs.Network.{Network, Phase, ready, nodeCount, channelCount, slotCount, node, channel, moving, entryOf, targetOf, timesOn}
+use Rattle.network.specs.Sound.{Limits, lastCount, goodOffer, goodCarried, lineFits, bufferFits, soundNode, soundChannel, soundBefore, soundAfter, sound}
 use Rattle.network.proofs.Tests.{leb-reads, ltb-reads, eqb-reads, each-below, each-of}
 use Rattle.network.proofs.Joined.{two-read, three-read, six-read, only-read, itself, ready-reads, absent-reads}
 use Rattle.network.proofs.State.{Net, Sound, entryIn, targetIn}

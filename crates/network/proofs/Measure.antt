@@ -14,7 +14,7 @@ use borrow.Author.Tests.{ne-eqb}
 use Rattle.batch.specs.declared.BatchRecord.{BatchRecord}
 use Rattle.hops.specs.Hops.{hops, next}
 use Rattle.network.specs.Counting.{one, sum, count}
-use Rattle.network.specs.Network.{Phase, resting, asking, ready, answering, moving}
+use Rattle.network.specs.Network.{Phase, resting, asking, ready, answering}
 use Rattle.network.specs.Sound.{absent}
 use Rattle.network.specs.Calls.{Event, delivered}
 use Rattle.network.specs.Runs.{Call, matchedIn, handedOn}
@@ -25,7 +25,7 @@ use Rattle.network.proofs.State.{upd, upd-same, upd-other, upd-at, Net,
 use Rattle.network.proofs.Away.{away, away-here, away-below, away-next, away-first, away-on}
 use Rattle.network.proofs.Weight.{nodeWeight, weighs, channelWeight, weight, weight-turn, weight-join, weight-pop, weight-push, weight-pass, messages, quiet, all-channels, compare-all, entry-below, target-below}
 use Rattle.network.proofs.Kept.{first-passes}
-use Rattle.network.proofs.Place.{Stands, buffered, waiting, stands-same, stands-turn, stands-join, stands-pass, stands-push, stands-pop, stands-once, count-split, count-split-some}
+use Rattle.network.proofs.Place.{Stands, buffered, waiting, stands-same, stands-turn, stands-join, stands-pass, stands-push, stands-pop, stands-once, count-split}
 
 module _ (N : Net) where
   open Net N using (n, c, slots, sender, receiver)

@@ -4,7 +4,7 @@
 use Prim.Native.Nat.{ℕ, _+_, _≤_, _<_}
 use mathlib.Core.Path.{_≡_, refl, sym, ap, subst, _∙_}
 use mathlib.Core.Logic.{_↔_}
-use mathlib.Core.Bool.{Bool, true, false, false≢true, _&&_}
+use mathlib.Core.Bool.{Bool, true, false, false≢true}
 use mathlib.Core.List.{List, [], _∷_, append-nil}
 use mathlib.Core.Option.{Option, none, some}
 use native.Mathlib.Omega.{arith}
@@ -21,12 +21,12 @@ use Rattle.network.specs.Counting.{one, sum, count, tabulate}
 use Rattle.network.specs.Network.{Network, NodeState, ChannelState, Phase, resting, asking, ready, answering, ringOf, fresh, nodeCount, channelCount, noNode, noChannel, node, channel, moving, timesOn}
 use Rattle.network.specs.Sound.{goodOffer, goodCarried}
 use Rattle.network.specs.Sound
-use Rattle.network.specs.Layout.{ringLimits, nodeRoom, channelRoom, rowLength, cellRoom, recordRoom, row, padded, rows, cellsOf, queueOf, phaseCode, phaseOf, offeredFlag, offerOf, viewNode, viewChannel, view, offerBytes, carriedBytes, byNode, byChannel, headOf, ringIn, holdHead, hold, freshRing, same, sameHead, sameRing, laidOut, soundRing}
+use Rattle.network.specs.Layout.{ringLimits, nodeRoom, channelRoom, rowLength, cellRoom, recordRoom, row, padded, rows, cellsOf, phaseCode, phaseOf, offeredFlag, offerOf, viewNode, viewChannel, view, offerBytes, carriedBytes, byNode, byChannel, headOf, ringIn, holdHead, hold, freshRing, same, sameHead, sameRing, laidOut, soundRing}
 use Rattle.network.proofs.Counting.{sum-le, sum-term, sum-ones, length-counts, one-most}
 use Rattle.network.proofs.Cases.{and-both, both-so}
 use Rattle.network.proofs.Tests.{reads, and-reads}
 use Rattle.network.proofs.Clauses.{Facts, facts}
-use Rattle.network.proofs.Rows.{padded-whole, length-tabulate, getD-tabulate, tabulate-is, queue-cells, rows-length, row-rows}
+use Rattle.network.proofs.Rows.{padded-whole, getD-tabulate, tabulate-is, queue-cells, rows-length, row-rows}
 
 -- a ring for which there is room: in the arrays, in the rows, and in the bytes of a record
 

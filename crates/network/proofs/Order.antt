@@ -3,16 +3,14 @@
 use Prim.Native.Nat.{ℕ}
 use mathlib.Core.Path.{_≡_, refl, sym}
 use mathlib.Core.Logic.{_≢_}
-use mathlib.Core.Bool.{Bool, true, false, cond}
 use mathlib.Core.List.{List, [], _∷_, _++_, append-nil}
 use mathlib.Core.Option.{Option, none, some}
-use lib.Dec.{eqb}
 use borrow.Author.Tests.{eq-eqb, ne-eqb}
 use Rattle.batch.specs.declared.BatchRecord.{BatchRecord}
 use Rattle.network.specs.Network.{Phase, resting, asking, ready, answering}
-use Rattle.network.specs.Calls.{Event, done, delivered}
-use Rattle.network.specs.Runs.{Call, receive, send, enter, move, onChannel, sentOn, handedOn}
-use Rattle.network.proofs.Cases.{by-same, by-option, by-phase}
+use Rattle.network.specs.Calls.{Event}
+use Rattle.network.specs.Runs.{Call, onChannel, sentOn, handedOn}
+use Rattle.network.proofs.Cases.{by-same}
 use Rattle.network.proofs.State.{Net, State, Sound, Did, did-receive, did-offer, did-answer, did-enter, did-pass, did-ask, did-respond, did-deliver, upd, upd-same, upd-other}
 
 abbrev pub carriedList : Phase → List BatchRecord

@@ -4,14 +4,14 @@
 use Prim.Native.Nat.{ℕ, suc, _+_, _*_, _≤_, _<_}
 use mathlib.Core.Path.{_≡_, refl, sym, ap, _∙_}
 use mathlib.Core.Logic.{_≢_}
-use mathlib.Core.Bool.{true, false, not}
+use mathlib.Core.Bool.{false, not}
 use mathlib.Core.List.{List, [], _∷_, _++_, append-assoc}
 use mathlib.Core.Option.{Option, none}
 use native.Mathlib.Omega.{arith}
 use lib.Dec.{eqb}
 use lib.ListN.{length}
 use Rattle.batch.specs.declared.BatchRecord.{BatchRecord}
-use Rattle.network.specs.Counting.{one, sum, weigh, count, occupied}
+use Rattle.network.specs.Counting.{one, sum, weigh, count}
 use Rattle.network.specs.Network.{Phase, moving}
 use Rattle.network.proofs.Cases.{by-same, by-list}
 use Rattle.network.proofs.Counting.{sum-but, sum-term, weigh-append, weigh-cons, count-same, count-other, length-snoc, occupied-split, one-most}

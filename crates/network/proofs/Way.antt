@@ -10,7 +10,7 @@ use borrow.Author.Tests.{eq-eqb, ne-eqb, ltb-true, lt-ltb, leb-true, le-leb}
 use Rattle.hops.specs.Hops.{hops, next}
 use Rattle.hops.proofs.Laws.{hops-cases, hops-from-one, hops-to-n, hops-next, hops-step, next-below}
 use Rattle.network.specs.Counting.{one, count}
-use Rattle.network.specs.Network.{Network, nodeCount, channelCount, entry, target}
+use Rattle.network.specs.Network.{nodeCount, channelCount, entry, target}
 use Rattle.network.specs.Way.{upToBefore, WayIsHops}
 use Rattle.network.proofs.Cases.{by-same, and-left, and-right, and-both}
 use Rattle.network.proofs.Counting.{weigh-none, count-same, count-other}

@@ -16,7 +16,7 @@ use Rattle.batch.specs.Good.{verdictOf}
 pub use Rattle.batch.specs.Good.{unless}
 use Rattle.hops.specs.Hops.{hops}
 use Rattle.network.specs.Counting.{one, sum, count, occupied}
-use Rattle.network.specs.Network.{Network, NodeState, ChannelState, Phase, resting, asking, ready, answering, nodeCount, channelCount, slotCount, node, channel, nextNode, target, withNode, withChannel, withNewNode, withNewChannel, withStarted, withDeliveries}
+use Rattle.network.specs.Network.{Network, ChannelState, Phase, resting, asking, ready, answering, nodeCount, channelCount, slotCount, node, channel, nextNode, target, withNode, withChannel, withNewNode, withNewChannel, withStarted, withDeliveries}
 use Rattle.network.specs.Sound.{Limits, oneMore, absent, isResting, isReady}
 
 -- what an accepted call answers: nothing more, a delivery with its channel and record, hops left, or a waiting set

@@ -1,15 +1,14 @@
 -- The ring of document 01 apart from how it is held in memory: nodes with a buffer and a line, channels with a phase and an offer.
 -- Buffers and lines are lists of channel numbers, first come first. Nothing here knows how many nodes or channels there may be.
 -- Assumes nothing.
-use Prim.Native.Nat.{ℕ, zero, suc, _+_}
-use mathlib.Core.Bool.{Bool, true, false, cond}
+use Prim.Native.Nat.{ℕ, _+_}
+use mathlib.Core.Bool.{Bool, true, false}
 use mathlib.Core.List.{List, [], _∷_, _++_}
-use mathlib.Core.Option.{Option, none, some}
-use lib.Dec.{eqb}
+use mathlib.Core.Option.{Option, none}
 use lib.ListN.{length, getD, set}
 use Rattle.batch.specs.declared.BatchRecord.{BatchRecord}
 use Rattle.hops.specs.Hops.{next}
-use Rattle.network.specs.Counting.{sum, count, occupied}
+use Rattle.network.specs.Counting.{sum, count}
 
 -- Where a channel stands. Resting: nothing under way. Asking (document 01's word): its request is on the ring. Ready: the request
 -- arrived and no record was offered. Answering: its response is on the ring, with the record carried.

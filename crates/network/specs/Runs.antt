@@ -1,13 +1,13 @@
 -- Document 01, "Runs of calls": lists of calls on anything that answers ring calls, what was offered and delivered on a channel, and
 -- which calls are counted. S is what is called: the ring apart from its layout, or the ring in memory. Assumes nothing.
-use Prim.Native.Nat.{ℕ, zero, suc, _+_, _*_}
+use Prim.Native.Nat.{ℕ, _+_, _*_}
 use mathlib.Core.Bool.{Bool, true, false, cond}
 use mathlib.Core.List.{List, [], _∷_, _++_}
 use mathlib.Core.Option.{Option, none, some}
 use lib.Dec.{eqb}
 use Rattle.batch.specs.declared.BatchRecord.{BatchRecord}
 use Rattle.network.specs.Counting.{one}
-use Rattle.network.specs.Network.{Network, ChannelState, Phase, resting, asking, ready, answering, nodeCount, channelCount, slotCount, channel}
+use Rattle.network.specs.Network.{Network, Phase, resting, asking, ready, answering, nodeCount, channelCount, slotCount, channel}
 use Rattle.network.specs.Sound.{Limits}
 use Rattle.network.specs.Calls.{Event, Delivery, deliveryIn, Outcome, refused, accepted}
 use Rattle.network.specs.Calls

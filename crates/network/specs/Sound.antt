@@ -1,15 +1,14 @@
 -- Document 01, "A sound ring", clause by clause, as one test that can be run. Assumes nothing.
-use Prim.Native.Nat.{ℕ, zero, suc, _+_, min}
+use Prim.Native.Nat.{ℕ, _+_, min}
 use mathlib.Core.Bool.{Bool, true, false, cond, _&&_, _||_, not}
-use mathlib.Core.List.{List, [], _∷_}
 use mathlib.Core.Option.{Option, none, some}
 use lib.Dec.{leb, ltb, eqb}
 use lib.ListN.{length}
 use Rattle.batch.specs.declared.BatchRecord.{BatchRecord}
 use Rattle.batch.specs.Good.{every, goodRecord}
 use Rattle.hops.specs.Hops.{hops}
-use Rattle.network.specs.Counting.{one, sum, allBelow, count, occupied}
-use Rattle.network.specs.Network.{Network, NodeState, ChannelState, Phase, resting, asking, ready, answering, nodeCount, channelCount, slotCount, node, channel, moving, entry, target, timesOn}
+use Rattle.network.specs.Counting.{one, allBelow, occupied}
+use Rattle.network.specs.Network.{Network, Phase, resting, asking, ready, answering, nodeCount, channelCount, slotCount, node, channel, moving, entry, target, timesOn}
 
 -- what a size of ring allows: so many nodes, so many channels, so many slots a node
 pub record Limits : Type 0 where
