@@ -1,4 +1,4 @@
--- Case splits that keep the equation: on a test, on two numbers, on a list, on an offer, on a phase. Assumes nothing.
+-- Ground. Case splits that keep the equation: on a test, on two numbers, on a list, on an offer, on a phase. Assumes nothing.
 use Prim.Native.Nat.{ℕ, _≤_, _<_}
 use mathlib.Core.Path.{_≡_, refl}
 use mathlib.Core.Logic.{_≢_}

@@ -1,4 +1,4 @@
--- What a test over the numbers below a bound, or over a list, says of each of them, and back. A number stands in a list where its
+-- Ground. What a test over the numbers below a bound, or over a list, says of each of them, and back. A number stands in a list where its
 -- count is above 0. Assumes nothing.
 use Prim.Native.Nat.{ℕ, zero, suc, _≤_, _<_}
 use mathlib.Core.Path.{_≡_, refl}

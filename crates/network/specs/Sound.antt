@@ -56,7 +56,7 @@ abbrev pub lineFits : Network → ℕ → ℕ → Bool
 lineFits σ p k = ltb k (channelCount σ) && eqb p (entry σ k)
 
 -- Channel k may stand in the buffer of node p: from its node of entry up to the node before its target in ring order, that is, no
--- further from the target than the entry is. For a same-node channel that is any node.
+-- further from the target than the entry is (Way has the nodes one by one). For a same-node channel that is any node.
 abbrev pub bufferFits : Network → ℕ → ℕ → Bool
 bufferFits σ p k =
     ltb k (channelCount σ)
