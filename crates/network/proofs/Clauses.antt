@@ -16,7 +16,7 @@ use Rattle.network.proofs.Joined.{two-read, three-read, six-read, only-
 use Rattle.network.proofs.State.{Net, Sound, entryIn, targetIn}
 use Rattle.network.proofs.Tables.{netOf, stateOf}
 
--- the ends of a message's way are the theory's
+-- the ends of a message's way are the theory's, by definition
 
 pub entry-in : (σ : Network) (f : Phase) (k : ℕ) → entryOf (channel σ k) f ≡ entryIn (netOf σ) f k
 entry-in σ f k = refl

@@ -5,14 +5,16 @@ use mathlib.Core.Path.{_≡_}
 use mathlib.Core.Logic.{_↔_, _≢_, ⊎-elim}
 use mathlib.Core.List.{List, [], _∷_}
 use native.Mathlib.Omega.{arith}
-use lib.Dec.{eqb, ltb}
-use borrow.Author.Tests.{eq-eqb, ne-eqb, ltb-true, lt-ltb, leb-true, le-leb}
+use lib.Dec.{eqb}
+use borrow.Author.Tests.{eq-eqb, ne-eqb, leb-true, le-leb}
 use Rattle.hops.specs.Hops.{hops, next}
 use Rattle.hops.proofs.Laws.{hops-cases, hops-from-one, hops-to-n, hops-next, hops-step, next-below}
 use Rattle.network.specs.Counting.{one, count}
 use Rattle.network.specs.Network.{nodeCount, channelCount, entry, target}
 use Rattle.network.specs.Way.{upToBefore, WayIsHops}
-use Rattle.network.proofs.Cases.{by-same, and-left, and-right, and-both}
+use Rattle.network.proofs.Cases.{by-same}
+use Rattle.network.proofs.Tests.{ltb-reads}
+use Rattle.network.proofs.Joined.{two-read}
 use Rattle.network.proofs.Counting.{weigh-none, count-same, count-other}
 use Rattle.network.proofs.Load.{count-cons}
 
@@ -58,7 +60,5 @@ module _ (n t : ℕ) (lt : t < n) where
 pub way-is-hops : WayIsHops
 way-is-hops σ p k lp le lt =
     let n : ℕ = nodeCount σ in
-    let way = on-way n (target σ k) lt p lp n (entry σ k) le (hops-to-n n (entry σ k) (target σ k) le lt) in (
-      λ fits. (ltb-true _ _ (and-left _ _ fits), way .1 (leb-true _ _ (and-right (ltb k (channelCount σ)) _ fits))),
-      λ there. and-both _ _ (lt-ltb _ _ (there .0)) (le-leb _ _ (way .0 (there .1))),
-    )
+    let way = on-way n (target σ k) lt p lp n (entry σ k) le (hops-to-n n (entry σ k) (target σ k) le lt) in
+    two-read (ltb-reads k (channelCount σ)) (λ near. way .1 (leb-true _ _ near), λ on. le-leb _ _ (way .0 on))
