@@ -9,7 +9,6 @@ use lib.Dec.{eqb, leb, ltb}
 use lib.IntN.{ℤ, pos, negℤ}
 use lib.Signed.{leZ}
 use lib.ListN.{length, take, drop}
-use Rattle.refusal.specs.declared.Refusal.{Refusal}
 use Rattle.refusal.specs.declared.Refusal.the-variants.{BatchNumberZero, TemperatureOutOfRange, NameTooLong, BadName}
 use Rattle.batch.specs.declared.BatchRecord.{BatchRecord}
 use Rattle.batch.specs.declared.Verdict.{Verdict}
@@ -78,18 +77,18 @@ recordOf number vessel temperature length name =
       name = name;
     }
 
--- the refusal where the clause fails, else what the later clauses say
-abbrev pub unless : Bool → Refusal → Verdict → Verdict
+-- what comes later where the test passes, else the refusal
+abbrev pub unless {ℓ} : {A : Type ℓ} → Bool → A → A → A
 unless true refusal later = later
-unless false refusal later = Refused refusal
+unless false refusal later = refusal
 
 -- the first refusal that applies: 11, 12, 13, 14. The widths are judged with the last
 unfoldable pub verdictOf : BatchRecord → Verdict
 verdictOf r =
-    unless (batchGood r) BatchNumberZero
-    (unless (tempGood r) TemperatureOutOfRange
-    (unless (nameLengthGood r) NameTooLong
-    (unless (nameGood r && widthsGood r) BadName
+    unless (batchGood r) (Refused BatchNumberZero)
+    (unless (tempGood r) (Refused TemperatureOutOfRange)
+    (unless (nameLengthGood r) (Refused NameTooLong)
+    (unless (nameGood r && widthsGood r) (Refused BadName)
     Good)))
 
 -- a record is good exactly when no refusal applies

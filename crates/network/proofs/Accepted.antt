@@ -1,10 +1,10 @@
--- The calls on a sound started ring, one by one: an accepted receive, send, entry or move is a step of the theory, and leaves the sizes
--- and ends as they are. Each law follows the order of a call's refusals and says nothing where one applies. Assumes nothing.
+-- Lists. The calls on a sound started ring, one by one: an accepted receive, send, entry or move is a step of the theory, and leaves the
+-- sizes and ends as they are. Each law follows the order of a call's refusals and says nothing where one applies. Assumes nothing.
 use Prim.Native.Nat.{ℕ, _+_, _≤_, _<_}
 use mathlib.Core.Path.{_≡_, refl, sym, ap, subst, _∙_}
 use mathlib.Core.Logic.{_≢_, ⊎-elim}
 use mathlib.Core.Bool.{Bool, true, false, false≢true, cond, not}
-use mathlib.Core.List.{List, [], _∷_}
+use mathlib.Core.List.{List, _∷_}
 use mathlib.Core.Option.{Option, none, some}
 use native.Mathlib.Omega.{arith}
 use lib.Dec.{ltb}
@@ -18,19 +18,21 @@ use Rattle.hops.specs.Hops.{next}
 use Rattle.hops.proofs.Laws
 use Rattle.network.specs.Counting.{one, sum, count}
 use Rattle.network.specs.Network.{Network, Phase, resting, asking, ready, answering, nodeCount, channelCount, node, channel, nextNode, moving, withChannel}
-use Rattle.network.specs.Sound.{Limits, lastCount, oneMore, isResting, isReady, absent, sound}
-use Rattle.network.specs.Calls.{Event, done, delivered, Outcome, refused, accepted, unless, Arrival, taken, passing, arrived, arrival, joinLine, respond, takeRequest, deliver, leave, hasSlot, enterFirst, handOver, moveFirst}
+use Rattle.network.specs.Sound.{Limits, lastCount, oneMore, isResting, isReady, absent}
+use Rattle.network.specs.Calls.{Event, done, delivered, Outcome, refused, unless, Arrival, taken, passing, arrived, arrival, joinLine, respond, takeRequest, deliver, leave, hasSlot, handOver}
 use Rattle.network.specs.Calls
 use Rattle.network.specs.Runs.{Call, call, counts}
 use Rattle.network.specs.Runs
-use Rattle.network.proofs.Cases.{by-test, by-same, by-phase, both-ways}
+use Rattle.network.proofs.Cases.{by-test, by-same, by-list, by-phase, both-ways}
 use Rattle.network.proofs.Counting.{sum-term, count-same, weigh-cons}
 use Rattle.network.proofs.Joined.{resting-is, ready-is, absent-is}
 use Rattle.hops.proofs.Laws.{next-below}
 use Rattle.network.proofs.State.{Net, State, Sound, Did, did-receive, did-offer, did-answer, did-enter, did-pass, did-ask, did-respond, did-deliver, targetIn, turn, join, pop, pass}
 use Rattle.network.proofs.Tables.{netOf, stateOf, Becomes, and-then, recounted, still-node, turned, joined, popped, passed, pushed}
-use Rattle.network.proofs.Outcomes.{After, not-done, was-done, after-accepted, after-some, if-met, if-good, Silent, silent}
-use Rattle.network.proofs.Clauses.{Started, sound-started}
+use Rattle.network.proofs.Weight.{target-below}
+use Rattle.network.proofs.Kept.{first-passes}
+use Rattle.network.proofs.Outcomes.{After, not-done, was-done, after-some, if-met, if-good, Silent, silent}
+use Rattle.network.proofs.Clauses.{Started}
 
 -- an accepted step: it is one of the theory, and what the theory does not see stays within its bounds
 pub record Stepped (σ : Network) (a : Call) (e : Event) (τ : Network) : Type 0 where
@@ -48,25 +50,16 @@ pub data Answered (σ : Network) (a : Call) (e : Event) (τ : Network) : Type 0 
 next-elsewhere : (n p q : ℕ) → p < n → q < n → next n p ≢ q → next n p ≢ p
 next-elsewhere n p q lp lq d e = ⊎-elim (λ last. d (omega arith)) (λ more. omega arith) (Laws.next-cases n p)
 
--- the first of a buffer is a channel of the ring, and its message is under way
+-- the message that is first in a buffer is under way
 module _ (N : Net) (s : State) (t : Sound N s) (p k : ℕ) (ks : List ℕ) (lp : p < N .n) (e : s .buffer p ≡ k ∷ ks) where
   first-in : 0 < count k (s .buffer p)
   first-in = rw (e, weigh-cons) (omega (arith, count-same k))
 
-  first-below : k < N .c
-  first-below = t .in-buffer p lp k first-in .0
-
   pub first-moving : moving (s .phase k) ≡ true
   first-moving =
       by-test (moving (s .phase k)) (λ m. m) λ m.
-      let none-on : sum (N .n) (λ q. count k (s .buffer q) + count k (s .line q)) ≡ 0 = t .once k first-below ∙ ap one m in
+      let none-on : sum (N .n) (λ q. count k (s .buffer q) + count k (s .line q)) ≡ 0 = t .once k (first-passes N t p k ks lp e .0) ∙ ap one m in
       absurd (omega (arith, first-in, sum-term (N .n) p (λ q. count k (s .buffer q) + count k (s .line q)) lp))
-
-  target-below : (f : Phase) → targetIn N f k < N .n
-  target-below resting = t .sender-below k first-below
-  target-below asking = t .sender-below k first-below
-  target-below ready = t .receiver-below k first-below
-  target-below (answering x) = t .receiver-below k first-below
 
 -- what becomes of a message under way that reaches node q
 pub data ArrivesAs (σ : Network) (q k : ℕ) : Arrival → Type 0 where
@@ -107,24 +100,26 @@ module _ (L : Limits) (σ : Network) (h : Started L σ) where
         delivery-limit = l;
       }
 
+  -- a call that is refused before the start, and where its channel or node is not there
+  if-there : {P : Event → Network → Type 0} (i n : ℕ) (r r′ : Refusal) (o : Outcome Network) → (i < n → After P o) →
+      After P (unless (σ .started) (refused r) (unless (ltb i n) (refused r′) o))
+  if-there i n r r′ o h = if-met (σ .started) r _ λ s. if-met (ltb i n) r′ o λ l. h (ltb-true i n l)
+
   pub receive-did : (k : ℕ) → After (Stepped σ (Runs.receive k)) (Calls.receive k σ)
   unfolding Calls.receive
   receive-did k =
-      if-met (σ .started) _ _ λ s.
-      if-met (ltb k (channelCount σ)) _ _ λ l.
+      if-there k (channelCount σ) _ _ _ λ lk.
       if-met (isResting (channel σ k .phase)) _ _ λ f.
-      let lk = ltb-true _ _ l in
       was-done (stepped _ (did-receive k lk (resting-is _ f))
       (announced σ _ k asking _ (tables .receiver-below k lk) lk) delivery-limit)
 
   pub send-did : (k : ℕ) (x : BatchRecord) → After (Stepped σ (Runs.send k x)) (Calls.send k x σ)
   unfolding Calls.send
   send-did k x =
-      if-met (σ .started) _ _ λ s.
-      if-met (ltb k (channelCount σ)) _ _ λ l.
+      if-there k (channelCount σ) _ _ _ λ lk.
       if-good (verdictOf x) _ λ g.
       if-met (absent (channel σ k .offer)) _ _ λ a.
-      was-done (offered (ltb-true _ _ l) (good-exactly x .1 g) (absent-is _ a) (isReady (channel σ k .phase)) refl)
+      was-done (offered lk (good-exactly x .1 g) (absent-is _ a) (isReady (channel σ k .phase)) refl)
     where
       offered : k < channelCount σ → goodRecord x ≡ true → channel σ k .offer ≡ none →
           (b : Bool) → isReady (channel σ k .phase) ≡ b →
@@ -136,20 +131,17 @@ module _ (L : Limits) (σ : Network) (h : Started L σ) where
   pub enter-did : (p : ℕ) → After (Stepped σ (Runs.enter p)) (Calls.enter p σ)
   unfolding Calls.enter
   enter-did p =
-      if-met (σ .started) _ _ λ s.
-      if-met (ltb p (nodeCount σ)) _ _ λ l.
-      entered (ltb-true _ _ l) (node σ p .line) refl
-    where
-      entered : p < nodeCount σ → (xs : List ℕ) → node σ p .line ≡ xs → After (Stepped σ (Runs.enter p)) (enterFirst p xs σ)
-      entered lp [] e = not-done
-      entered lp (k ∷ ks) e =
-          if-met (hasSlot σ p) _ _ λ room.
-          was-done (stepped _ (did-enter p k ks lp e (ltb-true _ _ room)) (pushed σ p lp k ks) delivery-limit)
+      if-there p (nodeCount σ) _ _ _ λ lp.
+      by-list (node σ p .line) (λ none. rw none not-done) λ k ks e.
+      rw e (
+      if-met (hasSlot σ p) _ _ λ room.
+      was-done (stepped _ (did-enter p k ks lp e (ltb-true _ _ room)) (pushed σ p lp k ks) delivery-limit)
+      )
 
   -- the first of the buffer of p leaves for the next node
   module _ (p k : ℕ) (ks : List ℕ) (lp : p < nodeCount σ) (e : node σ p .buffer ≡ k ∷ ks) where
     known : k < channelCount σ
-    known = first-below (netOf σ) (stateOf σ) tables p k ks lp e
+    known = first-passes (netOf σ) tables p k ks lp e .0
 
     left : Becomes σ (leave p ks σ) (pop p ks (stateOf σ))
     left = popped σ p lp ks
@@ -176,7 +168,7 @@ module _ (L : Limits) (σ : Network) (h : Started L σ) where
         node σ (nextNode σ p) .mark ≡ false →
         Stepped σ (Runs.move p) done (Calls.pass (nextNode σ p) k (leave p ks σ))
     passed-on d room clear =
-        let ends = target-below (netOf σ) (stateOf σ) tables p k ks lp e (channel σ k .phase) in
+        let ends = target-below (netOf σ) k tables known in
         stepped _ (did-pass p k ks lp e d (next-elsewhere _ _ _ lp ends d) room clear)
         (and-then (pass (nextNode σ p) k) left (passed _ _ (still-node left _ (next-below _ p lp)) k)) delivery-limit
 
@@ -192,14 +184,9 @@ module _ (L : Limits) (σ : Network) (h : Started L σ) where
   pub move-did : (p : ℕ) → After (Stepped σ (Runs.move p)) (Calls.move p σ)
   unfolding Calls.move
   move-did p =
-      if-met (σ .started) _ _ λ s.
-      if-met (ltb p (nodeCount σ)) _ _ λ l.
-      moved (ltb-true _ _ l) (node σ p .buffer) refl
-    where
-      moved : p < nodeCount σ → (xs : List ℕ) → node σ p .buffer ≡ xs → After (Stepped σ (Runs.move p)) (moveFirst p xs σ)
-      moved lp [] e = not-done
-      moved lp (k ∷ ks) e =
-          handed-over p k ks lp e _ (arrives-as σ _ k (first-moving (netOf σ) (stateOf σ) tables p k ks lp e))
+      if-there p (nodeCount σ) _ _ _ λ lp.
+      by-list (node σ p .buffer) (λ none. rw none not-done) λ k ks e.
+      rw e (handed-over p k ks lp e _ (arrives-as σ _ k (first-moving (netOf σ) (stateOf σ) tables p k ks lp e)))
 
   -- every call on a sound started ring
 
@@ -218,13 +205,8 @@ module _ (L : Limits) (σ : Network) (h : Started L σ) where
   call-did (Runs.enter p) = after-some (λ e τ. by-step refl) (enter-did p)
   call-did (Runs.move p) = after-some (λ e τ. by-step refl) (move-did p)
   call-did (Runs.hopsLeft k) =
-      if-met (σ .started) _ _ λ s.
-      if-met (ltb k (channelCount σ)) _ _ λ l.
+      if-there k (channelCount σ) _ _ _ λ l.
       was-done (by-question (silent refl (λ j. refl) (λ j. refl)) refl)
   call-did (Runs.waitingSet p) =
       if-met (ltb p (nodeCount σ)) _ _ λ l.
       was-done (by-question (silent refl (λ j. refl) (λ j. refl)) refl)
-
-pub accepted-did : (L : Limits) (σ : Network) (a : Call) {e : Event} {τ : Network} →
-    sound L σ ≡ true → σ .started ≡ true → call L a σ ≡ accepted e τ → Answered σ a e τ
-accepted-did L σ a ok s eq = after-accepted (subst (After (Answered σ a)) eq (call-did L σ (sound-started L σ ok s) a))

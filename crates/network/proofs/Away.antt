@@ -1,13 +1,14 @@
--- How far a node is behind another in ring order, from 0 to n - 1, and how that changes when the one or the other goes on to the next
--- node. Each law is arithmetic once the tests in the definitions are decided. Assumes nothing.
+-- Theory. How far a node is behind another in ring order, from 0 to n - 1, and how that changes when the one or the other goes on to the
+-- next node. Each law is arithmetic once the tests in the definitions are decided. Assumes nothing.
 use Prim.Native.Nat.{ℕ, suc, _+_, _-_, _≤_, _<_}
-use mathlib.Core.Path.{_≡_, refl}
-use mathlib.Core.Logic.{_≢_}
+use mathlib.Core.Path.{_≡_}
+use mathlib.Core.Logic.{_≢_, ⊎-elim}
 use mathlib.Core.Bool.{cond}
 use native.Mathlib.Omega.{arith}
-use lib.Dec.{eqb, leb}
-use borrow.Author.Tests.{eqb-true, eqb-false, leb-true, leb-false}
+use lib.Dec.{leb}
+use borrow.Author.Tests.{leb-true, leb-false}
 use Rattle.hops.specs.Hops.{next}
+use Rattle.hops.proofs.Laws
 use Rattle.network.proofs.Cases.{by-test}
 
 -- so many nodes p is behind the node at: 0 at the node itself, n - 1 at the node next to it
@@ -24,9 +25,7 @@ away-cases n at p l near far =
 
 -- the next node, by what its test says
 next-cases {ℓ} : {X : Type ℓ} (n p : ℕ) → (suc p ≡ n → next n p ≡ 0 → X) → (suc p ≢ n → next n p ≡ suc p → X) → X
-unfolding next
-next-cases n p last inner =
-    by-test (eqb (suc p) n) (λ e. last (eqb-true (suc p) n e) (rw e refl)) (λ e. inner (eqb-false (suc p) n e) (rw e refl))
+next-cases n p last inner = ⊎-elim (λ a. last (a .0) (a .1)) (λ a. inner (a .0) (a .1)) (Laws.next-cases n p)
 
 pub away-here : (n p : ℕ) → p < n → away n p p ≡ 0
 away-here n p l = away-cases n p p l (λ a e. omega arith) (λ a e. omega arith)

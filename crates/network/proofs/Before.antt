@@ -1,29 +1,30 @@
--- A ring that has not started: it is sound exactly when it is idle, that is, when every node is empty and every channel rests. So what
--- the ring is built by keeps it sound, and nothing is taken in or handed out before the start. Assumes nothing.
+-- Lists. A ring that has not started: it is sound exactly when it is idle, that is, when every node is empty and every channel rests. So
+-- what the ring is built by keeps it sound, and nothing is taken in or handed out before the start. Assumes nothing.
 use Prim.Native.Nat.{ℕ, _+_, _≤_, _<_}
 use mathlib.Core.Path.{_≡_, refl, sym, ap, subst, _∙_}
-use mathlib.Core.Bool.{Bool, true, false, cond, _&&_, not}
+use mathlib.Core.Logic.{_↔_}
+use mathlib.Core.Bool.{true, false, cond, _&&_, not}
 use mathlib.Core.List.{List, [], _∷_, _++_}
 use mathlib.Core.Option.{none, some}
 use native.Mathlib.Omega.{arith}
 use lib.Dec.{leb, ltb, eqb}
 use lib.ListN.{length, getD, length-append, List·getD-append, List·getD-eq-default}
 use lib.Seq.{getD-append-seam}
-use borrow.Author.Tests.{ltb-true, leb-true, le-leb, eqb-true, eq-eqb, not-true}
+use borrow.Author.Tests.{ltb-true, leb-true, le-leb}
 use Rattle.refusal.specs.declared.Refusal.{Refusal}
 use Rattle.network.specs.Counting.{one, allBelow, weigh, count}
 use Rattle.network.specs.Network.{Network, NodeState, ChannelState, resting, fresh, nodeCount, channelCount, slotCount, node, channel, moving, noNode, noChannel, timesOn}
-use Rattle.network.specs.Sound.{Limits, isResting, absent, soundBefore, soundAfter, sound}
-use Rattle.network.specs.Calls.{Event, Outcome, refused, accepted, unless}
+use Rattle.network.specs.Sound.{Limits, soundBefore, soundAfter, sound}
+use Rattle.network.specs.Calls.{Event, Outcome, refused, unless}
 use Rattle.network.specs.Calls
 use Rattle.network.specs.Runs.{Call, call}
 use Rattle.network.specs.Runs
 use Rattle.network.proofs.Cases.{by-less, by-same, and-left, and-right, and-both, both-ways}
 use Rattle.network.proofs.Counting.{count-same, sum-same, sum-none, sum-term, weigh-none}
-use Rattle.network.proofs.Tests.{all-below, below-all}
-use Rattle.network.proofs.Joined.{all-three, resting-is, absent-is}
+use Rattle.network.proofs.Tests.{eqb-reads, each-below}
+use Rattle.network.proofs.Joined.{two-read, three-read, resting-reads, absent-reads, not-reads}
 use Rattle.network.proofs.Clauses.{Facts, facts, facts-sound}
-use Rattle.network.proofs.Outcomes.{After, was-done, after-accepted, if-met, Silent, silent}
+use Rattle.network.proofs.Outcomes.{After, was-done, if-met, Silent, silent}
 
 pub record IdleNode (L : Limits) (s : NodeState) : Type 0 where
   pub some-slot : 1 ≤ s .slots
@@ -52,12 +53,18 @@ unfolding weigh
 none-empty [] h = refl
 none-empty (x ∷ xs) h = absurd (h x (omega (arith, count-same x)))
 
--- two tests of `soundBefore`
-abbrev bare : Network → ℕ → Bool
-bare σ k = isResting (channel σ k .phase) && absent (channel σ k .offer)
-
-abbrev clear : Network → ℕ → Bool
-clear σ p = not (node σ p .mark)
+-- what `soundBefore` says
+before-reads : (σ : Network) →
+    (soundBefore σ ≡ true) ↔
+    (((k : ℕ) → k < channelCount σ → (channel σ k .phase ≡ resting) × (channel σ k .offer ≡ none))
+    × ((p : ℕ) → p < nodeCount σ → node σ p .mark ≡ false)
+    × (σ .deliveries ≡ 0))
+unfolding soundBefore
+before-reads σ =
+    three-read
+    (each-below (channelCount σ) (λ k. two-read (resting-reads (channel σ k .phase)) (absent-reads (channel σ k .offer))))
+    (each-below (nodeCount σ) (λ p. not-reads (node σ p .mark)))
+    (eqb-reads (σ .deliveries) 0)
 
 -- how often k stands at p
 abbrev timesAt : Network → ℕ → ℕ → ℕ
@@ -70,37 +77,32 @@ module _ (L : Limits) (σ : Network) where
   pub sound-idle : sound L σ ≡ true → σ .started ≡ false → IdleRing
   unfolding soundBefore
   sound-idle ok s =
+      let before = before-reads σ .0 (rw s at (h .at-start)) in
       record {
         node-limit = h .node-limit;
         channel-limit = h .channel-limit;
-        none-delivered = eqb-true _ _ (before .2);
+        none-delivered = before .2;
         each-node = λ p l. let q = h .each-node p l in record {
           some-slot = q .some-slot;
           slot-limit = q .slot-limit;
-          empty-buffer = none-empty _ (λ k i. nowhere p l k (q .in-buffer k i .0) (omega arith));
-          empty-line = none-empty _ (λ k i. nowhere p l k (q .in-line k i .0) (omega arith));
-          unmarked = not-true _ (all-below _ (clear σ) (before .1) p l);
+          empty-buffer = none-empty _ (λ k i. nowhere p l k (q .in-buffer k i .0) (before .0 k (q .in-buffer k i .0) .0) (omega arith));
+          empty-line = none-empty _ (λ k i. nowhere p l k (q .in-line k i .0) (before .0 k (q .in-line k i .0) .0) (omega arith));
+          unmarked = before .1 p l;
         };
         each-channel = λ k l. record {
           sender-below = h .each-channel k l .sender-below;
           receiver-below = h .each-channel k l .receiver-below;
-          at-rest = rests k l;
-          no-offer = absent-is _ (and-right (isResting (channel σ k .phase)) _ (all-below _ (bare σ) (before .0) k l));
+          at-rest = before .0 k l .0;
+          no-offer = before .0 k l .1;
         };
       }
     where
       h : Facts L σ
       h = facts L σ ok
 
-      before : (allBelow (channelCount σ) (bare σ) ≡ true) × (allBelow (nodeCount σ) (clear σ) ≡ true) × (eqb (σ .deliveries) 0 ≡ true)
-      before = let clause : soundBefore σ ≡ true = rw s at (h .at-start) in all-three _ _ _ clause
-
-      rests : (k : ℕ) → k < channelCount σ → channel σ k .phase ≡ resting
-      rests k l = resting-is _ (and-left _ (absent (channel σ k .offer)) (all-below _ (bare σ) (before .0) k l))
-
-      nowhere : (p : ℕ) → p < nodeCount σ → (k : ℕ) → k < channelCount σ → 0 < timesAt σ k p → ⊥
-      nowhere p lp k lk i =
-          let none-on : timesOn σ k ≡ 0 = h .each-channel k lk .once ∙ ap (λ f. one (moving f)) (rests k lk) in
+      nowhere : (p : ℕ) → p < nodeCount σ → (k : ℕ) → k < channelCount σ → channel σ k .phase ≡ resting → 0 < timesAt σ k p → ⊥
+      nowhere p lp k lk rests i =
+          let none-on : timesOn σ k ≡ 0 = h .each-channel k lk .once ∙ ap (λ f. one (moving f)) rests in
           omega (arith, sum-term (nodeCount σ) p (timesAt σ k) lp)
 
   -- an idle ring is sound, whichever clause of the start it is held to
@@ -134,13 +136,12 @@ module _ (L : Limits) (σ : Network) where
       nowhere k p l = rw (h .each-node p l .empty-buffer, h .each-node p l .empty-line) (omega (arith, weigh-none (λ x. one (eqb x k))))
 
   idle-before : IdleRing → soundBefore σ ≡ true
-  unfolding soundBefore
   idle-before h =
-      rw (
-        below-all (channelCount σ) (bare σ) (λ k l. rw (h .each-channel k l .at-rest, h .each-channel k l .no-offer)),
-        below-all (nodeCount σ) (clear σ) (λ p l. rw (h .each-node p l .unmarked)),
+      before-reads σ .1 (
+        λ k l. (h .each-channel k l .at-rest, h .each-channel k l .no-offer),
+        λ p l. h .each-node p l .unmarked,
+        h .none-delivered,
       )
-      (eq-eqb _ _ (h .none-delivered))
 
 pub fresh-sound : (L : Limits) → sound L fresh ≡ true
 unfolding sound soundBefore allBelow
@@ -253,7 +254,3 @@ module _ (L : Limits) (σ : Network) (ok : sound L σ ≡ true) (s : σ .started
   call-before (Runs.waitingSet p) =
       if-met (ltb p (nodeCount σ)) _ _ λ l.
       was-done (built σ (silent refl (λ k. refl) (λ k. refl)) idle s)
-
-pub accepted-before : (L : Limits) (σ : Network) (a : Call) {e : Event} {τ : Network} →
-    sound L σ ≡ true → σ .started ≡ false → call L a σ ≡ accepted e τ → Prepared L a e τ
-accepted-before L σ a ok s eq = after-accepted (subst (After (Prepared L a)) eq (call-before L σ ok s a))

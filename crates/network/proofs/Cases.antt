@@ -1,12 +1,12 @@
--- Case splits that keep the equation: on a test, on two numbers, on a list, on an offer, on a phase. Assumes nothing.
+-- Ground. Case splits that keep the equation: on a test, on two numbers, on a list, on an offer, on a phase. Assumes nothing.
 use Prim.Native.Nat.{ℕ, _≤_, _<_}
 use mathlib.Core.Path.{_≡_, refl}
 use mathlib.Core.Logic.{_≢_}
-use mathlib.Core.Bool.{Bool, true, false, false≢true, _&&_, _||_, not}
+use mathlib.Core.Bool.{Bool, true, false, false≢true, _&&_}
 use mathlib.Core.List.{List, [], _∷_}
 use mathlib.Core.Option.{Option, none, some}
-use lib.Dec.{eqb, ltb, leb}
-use borrow.Author.Tests.{eqb-true, eqb-false, ltb-true, ltb-false, leb-true, leb-false}
+use lib.Dec.{eqb, ltb}
+use borrow.Author.Tests.{eqb-true, eqb-false, ltb-true, ltb-false}
 use Rattle.batch.specs.declared.BatchRecord.{BatchRecord}
 use Rattle.network.specs.Network.{Phase, resting, asking, ready, answering}
 
@@ -52,3 +52,7 @@ and-right false b e = absurd (false≢true e)
 
 pub and-both : (a b : Bool) → a ≡ true → b ≡ true → (a && b) ≡ true
 and-both a b ha hb = rw (ha, hb)
+
+-- both parts of a pair under names
+pub both-so {ℓ} : {A B : Type 0} {X : Type ℓ} → A × B → (A → B → X) → X
+both-so parts so = so (parts .0) (parts .1)

@@ -1,5 +1,5 @@
--- Each change of a ring that the calls are made of, as it shows in memory: a number of the head is stored to, or a row is rewritten, where
--- the change shows, and what it leaves is left in memory too. Assumes nothing.
+-- Memory. Each change of a ring that the calls are made of, as it shows in memory: a number of the head is stored to, or a row is
+-- rewritten, where the change shows, and what it leaves is left in memory too. Assumes nothing.
 use Prim.Native.Nat.{ℕ, _+_, _≤_, _<_}
 use mathlib.Core.Path.{_≡_, refl, sym, ap, _∙_}
 use mathlib.Core.Bool.{Bool, false}
@@ -14,11 +14,10 @@ use Rattle.network.specs.declared.Ring.{Ring}
 use Rattle.network.specs.declared.Head.{Head}
 use Rattle.network.specs.Counting.{one, tabulate}
 use Rattle.network.specs.Network.{Network, NodeState, ChannelState, Phase, resting, nodeCount, channelCount, noNode, noChannel, node, channel, withNode, withChannel, withNewNode, withNewChannel, withStarted}
-use Rattle.network.specs.Layout.{nodeRoom, channelRoom, rowLength, rows, cellsOf, phaseCode, offeredFlag, offerBytes, carriedBytes, holdHead, hold, withNodes, withChannels, ringIn}
-use Rattle.network.specs.Network
-use Rattle.network.specs.Layout
+use Rattle.network.specs.Layout.{nodeRoom, channelRoom, rowLength, rows, cellsOf, phaseCode, offeredFlag, offerBytes, carriedBytes, holdHead, hold, headOf, withNodes, withChannels, ringIn}
 use Rattle.network.proofs.Cases.{by-same, by-less}
 use Rattle.network.proofs.Rows.{tabulate-same, tabulate-put, rows-same, rows-put, putRow, getD-snoc-same}
+use Rattle.network.proofs.Tables.{set-alike}
 use Rattle.network.proofs.Memory.{Fits, OfferFits, CarriedFits}
 
 -- what nodes or channels show in memory, of which there is room for n: numbers, and rows of w cells. One of them is another; one more
@@ -47,10 +46,7 @@ module _ {ℓ} {A : Type ℓ} (nothing : A) (n : ℕ) (xs : List A) where
     -- one that shows the same leaves what is shown
     shows {κ} : {B : Type κ} (f : A → B) → f s ≡ f (getD xs p nothing) → (i : ℕ) →
         f (getD (set xs p s) i nothing) ≡ f (getD xs i nothing)
-    shows f e i =
-        by-same i p
-        (λ here. rw here (ap f (getD-set-same xs p s nothing l) ∙ e))
-        (λ other. ap f (getD-set-other xs p i s nothing other))
+    shows f e i = ap (λ table. table i) (set-alike f xs p s nothing l e)
 
     pub numbers-left : (f : A → ℕ) → f s ≡ f (getD xs p nothing) → numbers f (set xs p s) ≡ numbers f xs
     numbers-left f e = tabulate-same n _ _ (λ i m. shows f e i)
@@ -84,26 +80,6 @@ module _ {ℓ} {A : Type ℓ} (nothing : A) (n : ℕ) (xs : List A) where
 
     pub cells-snoc-left : (w : ℕ) (f : A → List ℕ) → f s ≡ f nothing → cells w f (xs ++ (s ∷ [])) ≡ cells w f xs
     cells-snoc-left w f e = rows-same w n _ _ (λ i m. getD-snoc-same f xs s nothing i e)
-
--- the head of a ring that shows so
-
-abbrev pub headOf : ℕ → ℕ → ℕ → ℕ → ℕ → List ℕ → List ℕ → List ℕ → List ℕ → List ℕ → List ℕ → List ℕ → List ℕ → Head
-headOf d a n c z cap used waiting marks senders receivers phases offered =
-    record {
-      deliveries = d;
-      started = a;
-      «node_count» = n;
-      «channel_count» = c;
-      spare = z;
-      capacity = cap;
-      used = used;
-      waiting = waiting;
-      marks = marks;
-      senders = senders;
-      receivers = receivers;
-      phases = phases;
-      offered = offered;
-    }
 
 module _ (σ : Network) (fits : Fits σ) where
   -- one node is another with the same slots
@@ -237,7 +213,3 @@ module _ (σ : Network) where
       (hold σ .head .receivers))
   unfolding hold holdHead
   hold-with-started b = refl
-
-  pub hold-with-deliveries : (d : ℕ) → hold (Network.withDeliveries d σ) ≡ withHead (hold σ) (Layout.withDeliveries (hold σ .head) d)
-  unfolding hold holdHead
-  hold-with-deliveries d = refl

@@ -1,36 +1,28 @@
--- The test `sound` clause by clause: what it says as facts, and that the facts pass it. Facts about nodes and channels are in the words
--- of the theory's `Sound`, so a started ring passes the test exactly when its tables are `Sound` and its sizes are within the limits.
--- Assumes nothing.
+-- Lists. The test `sound` clause by clause: what it says as facts, and that the facts pass it. Facts about nodes and channels are in the
+-- words of the theory's `Sound`, so a started ring passes the test exactly when its tables are `Sound` and its sizes are within the
+-- limits. Assumes nothing.
 use Prim.Native.Nat.{ℕ, _≤_, _<_}
-use mathlib.Core.Path.{_≡_, refl, ap}
+use mathlib.Core.Path.{_≡_, refl}
+use mathlib.Core.Logic.{_↔_}
 use mathlib.Core.Bool.{true, cond}
 use mathlib.Core.Option.{none}
-use lib.Dec.{ltb}
 use lib.ListN.{length}
-use borrow.Author.Tests.{ltb-true, lt-ltb, leb-true, le-leb, eqb-true, eq-eqb}
 use Rattle.hops.specs.Hops.{hops}
 use Rattle.network.specs.Counting.{one, count, occupied}
-use Rattle.network.specs.Network.{Network, Phase, resting, asking, ready, answering, nodeCount, channelCount, node, channel, moving, entryOf, targetOf, timesOn}
-use Rattle.network.specs.Sound.{Limits, lastCount, absent, isReady, goodOffer, goodCarried, lineFits, bufferFits, soundNode, soundChannel, soundBefore, soundAfter, sound}
-use Rattle.network.proofs.Cases.{and-left, and-right, and-both}
-use Rattle.network.proofs.Tests.{all-below, below-all, all-of, of-all}
-use Rattle.network.proofs.Joined.{all-three, all-six, only-with, with-only, ready-is, absent-is}
+use Rattle.network.specs.Network.{Network, Phase, ready, nodeCount, channelCount, slotCount, node, channel, moving, entryOf, targetOf, timesOn}
+use Rattle.network.specs.Sound.{Limits, lastCount, goodOffer, goodCarried, lineFits, bufferFits, soundNode, soundChannel, soundBefore, soundAfter, sound}
+use Rattle.network.proofs.Tests.{leb-reads, ltb-reads, eqb-reads, each-below, each-of}
+use Rattle.network.proofs.Joined.{two-read, three-read, six-read, only-read, itself, ready-reads, absent-reads}
 use Rattle.network.proofs.State.{Net, Sound, entryIn, targetIn}
 use Rattle.network.proofs.Tables.{netOf, stateOf}
 
--- the ends of a message's way are the theory's
+-- the ends of a message's way are the theory's, by definition
 
 pub entry-in : (σ : Network) (f : Phase) (k : ℕ) → entryOf (channel σ k) f ≡ entryIn (netOf σ) f k
-entry-in σ resting k = refl
-entry-in σ asking k = refl
-entry-in σ ready k = refl
-entry-in σ (answering x) k = refl
+entry-in σ f k = refl
 
 pub target-in : (σ : Network) (f : Phase) (k : ℕ) → targetOf (channel σ k) f ≡ targetIn (netOf σ) f k
-target-in σ resting k = refl
-target-in σ asking k = refl
-target-in σ ready k = refl
-target-in σ (answering x) k = refl
+target-in σ f k = refl
 
 -- where channel k may stand
 
@@ -43,21 +35,11 @@ BufferFits σ p k =
 abbrev pub LineFits : Network → ℕ → ℕ → Type 0
 LineFits σ p k = (k < channelCount σ) × (p ≡ entryIn (netOf σ) (channel σ k .phase) k)
 
-module _ (σ : Network) (p k : ℕ) where
-  buffer-fits : bufferFits σ p k ≡ true → BufferFits σ p k
-  buffer-fits e =
-      rw (← entry-in σ (channel σ k .phase) k, ← target-in σ (channel σ k .phase) k)
-      (ltb-true _ _ (and-left _ _ e), leb-true _ _ (and-right (ltb k (channelCount σ)) _ e))
+buffer-reads : (σ : Network) (p k : ℕ) → (bufferFits σ p k ≡ true) ↔ BufferFits σ p k
+buffer-reads σ p k = two-read (ltb-reads _ _) (leb-reads _ _)
 
-  fits-buffer : BufferFits σ p k → bufferFits σ p k ≡ true
-  fits-buffer h = rw (entry-in, target-in) (and-both _ _ (lt-ltb _ _ (h .0)) (le-leb _ _ (h .1)))
-
-  line-fits : lineFits σ p k ≡ true → LineFits σ p k
-  line-fits e =
-      rw (← entry-in σ (channel σ k .phase) k) (ltb-true _ _ (and-left _ _ e), eqb-true _ _ (and-right (ltb k (channelCount σ)) _ e))
-
-  fits-line : LineFits σ p k → lineFits σ p k ≡ true
-  fits-line h = rw entry-in (and-both _ _ (lt-ltb _ _ (h .0)) (eq-eqb _ _ (h .1)))
+line-reads : (σ : Network) (p k : ℕ) → (lineFits σ p k ≡ true) ↔ LineFits σ p k
+line-reads σ p k = two-read (ltb-reads _ _) (eqb-reads _ _)
 
 -- a sound node
 
@@ -69,31 +51,15 @@ pub record NodeFacts (L : Limits) (σ : Network) (p : ℕ) : Type 0 where
   pub in-line : (k : ℕ) → 0 < count k (node σ p .line) → LineFits σ p k
   pub marked : node σ p .mark ≡ true → occupied (node σ p .line) ≡ true
 
-module _ (L : Limits) (σ : Network) (p : ℕ) where
-  pub node-facts : soundNode L σ p ≡ true → NodeFacts L σ p
-  unfolding soundNode
-  node-facts e =
-      let h = all-six _ _ _ _ _ _ e in
-      record {
-        some-slot = leb-true _ _ (h .0);
-        slot-limit = leb-true _ _ (h .1);
-        fits = leb-true _ _ (h .2);
-        in-buffer = λ k i. buffer-fits σ p k (all-of (bufferFits σ p) _ (h .3) k i);
-        in-line = λ k i. line-fits σ p k (all-of (lineFits σ p) _ (h .4) k i);
-        marked = only-with _ _ (h .5);
-      }
-
-  pub facts-node : NodeFacts L σ p → soundNode L σ p ≡ true
-  unfolding soundNode
-  facts-node h =
-      rw (
-        le-leb _ _ (h .some-slot),
-        le-leb _ _ (h .slot-limit),
-        le-leb _ _ (h .fits),
-        of-all (bufferFits σ p) (node σ p .buffer) (λ k i. fits-buffer σ p k (h .in-buffer k i)),
-        of-all (lineFits σ p) (node σ p .line) (λ k i. fits-line σ p k (h .in-line k i)),
-      )
-      (with-only _ _ (h .marked))
+node-reads : (L : Limits) (σ : Network) (p : ℕ) → (soundNode L σ p ≡ true) ↔ NodeFacts L σ p
+unfolding soundNode
+node-reads L σ p =
+    let r = six-read (leb-reads 1 _) (leb-reads _ _) (leb-reads _ _) (each-of (node σ p .buffer) (buffer-reads σ p))
+    (each-of (node σ p .line) (line-reads σ p)) (only-read itself itself) in (
+      λ e. let h = r .0 e in
+          record { some-slot = h .0; slot-limit = h .1; fits = h .2; in-buffer = h .3; in-line = h .4; marked = h .5 },
+      λ h. r .1 (h .some-slot, h .slot-limit, h .fits, h .in-buffer, h .in-line, h .marked),
+    )
 
 -- a sound channel
 
@@ -105,31 +71,15 @@ pub record ChannelFacts (σ : Network) (k : ℕ) : Type 0 where
   pub good-offer : goodOffer (channel σ k .offer) ≡ true
   pub good-carried : goodCarried (channel σ k .phase) ≡ true
 
-module _ (σ : Network) (k : ℕ) where
-  pub channel-facts : soundChannel σ k ≡ true → ChannelFacts σ k
-  unfolding soundChannel
-  channel-facts e =
-      let h = all-six _ _ _ _ _ _ e in
-      record {
-        sender-below = ltb-true _ _ (h .0);
-        receiver-below = ltb-true _ _ (h .1);
-        once = eqb-true _ _ (h .2);
-        ready-bare = λ r. absent-is _ (only-with _ _ (h .3) (ap isReady r));
-        good-offer = h .4;
-        good-carried = h .5;
-      }
-
-  pub facts-channel : ChannelFacts σ k → soundChannel σ k ≡ true
-  unfolding soundChannel
-  facts-channel h =
-      rw (
-        lt-ltb _ _ (h .sender-below),
-        lt-ltb _ _ (h .receiver-below),
-        eq-eqb _ _ (h .once),
-        with-only (isReady (channel σ k .phase)) (absent (channel σ k .offer)) (λ r. ap absent (h .ready-bare (ready-is _ r))),
-        h .good-offer,
-      )
-      (h .good-carried)
+channel-reads : (σ : Network) (k : ℕ) → (soundChannel σ k ≡ true) ↔ ChannelFacts σ k
+unfolding soundChannel
+channel-reads σ k =
+    let r = six-read (ltb-reads _ _) (ltb-reads _ _) (eqb-reads _ _)
+    (only-read (ready-reads (channel σ k .phase)) (absent-reads (channel σ k .offer))) itself itself in (
+      λ e. let h = r .0 e in
+          record { sender-below = h .0; receiver-below = h .1; once = h .2; ready-bare = h .3; good-offer = h .4; good-carried = h .5 },
+      λ h. r .1 (h .sender-below, h .receiver-below, h .once, h .ready-bare, h .good-offer, h .good-carried),
+    )
 
 -- the whole ring, started or not
 
@@ -141,31 +91,21 @@ pub record Facts (L : Limits) (σ : Network) : Type 0 where
   pub each-channel : (k : ℕ) → k < channelCount σ → ChannelFacts σ k
   pub at-start : cond (σ .started) (soundAfter σ) (soundBefore σ) ≡ true
 
-module _ (L : Limits) (σ : Network) where
-  pub facts : sound L σ ≡ true → Facts L σ
-  unfolding sound
-  facts e =
-      let h = all-six _ _ _ _ _ _ e in
-      record {
-        node-limit = leb-true _ _ (h .0);
-        channel-limit = leb-true _ _ (h .1);
-        delivery-limit = leb-true _ _ (h .2);
-        each-node = λ p l. node-facts L σ p (all-below _ (soundNode L σ) (h .3) p l);
-        each-channel = λ k l. channel-facts σ k (all-below _ (soundChannel σ) (h .4) k l);
-        at-start = h .5;
-      }
+sound-reads : (L : Limits) (σ : Network) → (sound L σ ≡ true) ↔ Facts L σ
+unfolding sound
+sound-reads L σ =
+    let r = six-read (leb-reads (nodeCount σ) (L .nodes)) (leb-reads (channelCount σ) (L .channels)) (leb-reads (σ .deliveries) lastCount)
+    (each-below (nodeCount σ) (node-reads L σ)) (each-below (channelCount σ) (channel-reads σ)) itself in (
+      λ e. let h = r .0 e in
+          record { node-limit = h .0; channel-limit = h .1; delivery-limit = h .2; each-node = h .3; each-channel = h .4; at-start = h .5 },
+      λ h. r .1 (h .node-limit, h .channel-limit, h .delivery-limit, h .each-node, h .each-channel, h .at-start),
+    )
 
-  pub facts-sound : Facts L σ → sound L σ ≡ true
-  unfolding sound
-  facts-sound h =
-      rw (
-        le-leb _ _ (h .node-limit),
-        le-leb _ _ (h .channel-limit),
-        le-leb _ _ (h .delivery-limit),
-        below-all (nodeCount σ) (soundNode L σ) (λ p l. facts-node L σ p (h .each-node p l)),
-        below-all (channelCount σ) (soundChannel σ) (λ k l. facts-channel σ k (h .each-channel k l)),
-      )
-      (h .at-start)
+pub facts : (L : Limits) (σ : Network) → sound L σ ≡ true → Facts L σ
+facts L σ = sound-reads L σ .0
+
+pub facts-sound : (L : Limits) (σ : Network) → Facts L σ → sound L σ ≡ true
+facts-sound L σ = sound-reads L σ .1
 
 -- a sound ring that has started: its tables are sound, and its sizes are within the limits
 
@@ -182,21 +122,24 @@ pub record Started (L : Limits) (σ : Network) : Type 0 where
   pub delivery-limit : σ .deliveries ≤ lastCount
   pub tables : Sound (netOf σ) (stateOf σ)
 
+after-reads : (σ : Network) → (soundAfter σ ≡ true) ↔ ((1 ≤ nodeCount σ) × (1 ≤ channelCount σ) × (channelCount σ < slotCount σ))
+unfolding soundAfter
+after-reads σ = three-read (leb-reads 1 _) (leb-reads 1 _) (ltb-reads _ _)
+
 module _ (L : Limits) (σ : Network) where
   pub sound-started : sound L σ ≡ true → σ .started ≡ true → Started L σ
   unfolding soundAfter
   sound-started e s =
       let h = facts L σ e in
-      let after : soundAfter σ ≡ true = rw s at (h .at-start) in
-      let three = all-three _ _ _ after in
+      let sizes = after-reads σ .0 (rw s at (h .at-start)) in
       record {
         running = s;
         within = record {
           node-limit = h .node-limit;
           channel-limit = h .channel-limit;
           slot-limit = λ p l. h .each-node p l .slot-limit;
-          some-node = leb-true _ _ (three .0);
-          some-channel = leb-true _ _ (three .1);
+          some-node = sizes .0;
+          some-channel = sizes .1;
         };
         delivery-limit = h .delivery-limit;
         tables = record {
@@ -211,7 +154,7 @@ module _ (L : Limits) (σ : Network) where
           ready-bare = λ k l. h .each-channel k l .ready-bare;
           good-offer = λ k l. h .each-channel k l .good-offer;
           good-carried = λ k l. h .each-channel k l .good-carried;
-          more-slots = ltb-true _ _ (three .2);
+          more-slots = sizes .2;
         };
       }
 
@@ -241,5 +184,5 @@ module _ (L : Limits) (σ : Network) where
           good-offer = t .good-offer k l;
           good-carried = t .good-carried k l;
         };
-        at-start = rw (h .running, le-leb _ _ (w .some-node), le-leb _ _ (w .some-channel)) (lt-ltb _ _ (t .more-slots));
+        at-start = rw (h .running) (after-reads σ .1 (w .some-node, w .some-channel, t .more-slots));
       })

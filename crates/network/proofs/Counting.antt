@@ -1,16 +1,16 @@
--- Laws of sums, counts and tests. `sum-but` is the one that steps use: two tables that agree but at one place have sums that differ by
--- what stands there. Everything is stated with `+`, never with `-`. Assumes nothing.
+-- Ground. Laws of sums and counts. `sum-but` is the one that steps use: two tables that agree but at one place have sums that
+-- differ by what stands there. Everything is stated with `+`, never with `-`. Assumes nothing.
 use Prim.Native.Nat.{ℕ, zero, suc, _+_, _*_, _≤_, _<_}
 use mathlib.Core.Path.{_≡_, refl, sym, ap, _∙_}
 use mathlib.Core.Logic.{_≢_}
-use mathlib.Core.Bool.{Bool, true, false, _&&_, not}
+use mathlib.Core.Bool.{Bool, true, false}
 use mathlib.Core.List.{List, [], _∷_, _++_}
-use native.Mathlib.Nat.{not-suc-le-zero, add-zero, zero-add}
+use native.Mathlib.Nat.{not-suc-le-zero, zero-add}
 use native.Mathlib.Omega.{arith}
-use lib.Dec.{eqb, ltb}
+use lib.Dec.{eqb}
 use lib.ListN.{length, length-append}
-use borrow.Author.Tests.{eq-eqb, ne-eqb, eqb-true, eqb-false}
-use Rattle.network.specs.Counting.{one, sum, allBelow, weigh, count, allOf, occupied}
+use borrow.Author.Tests.{eq-eqb, ne-eqb}
+use Rattle.network.specs.Counting.{one, sum, weigh, count, occupied}
 use Rattle.network.proofs.Cases.{by-same, by-less}
 
 -- sums below a bound
@@ -121,6 +121,11 @@ sum-some (suc n) f l =
     by-less 0 (f n)
     (λ here. (n, omega arith, here))
     (λ nought. let found = sum-some n f (omega arith) in (found .0, omega arith, found .2))
+
+-- a list with something in it is not empty
+pub occupied-split : (xs : List ℕ) (k : ℕ) (ys : List ℕ) → occupied (xs ++ (k ∷ ys)) ≡ true
+occupied-split [] k ys = refl
+occupied-split (x ∷ xs) k ys = refl
 
 pub length-snoc : (xs : List ℕ) (k : ℕ) → length (xs ++ (k ∷ [])) ≡ suc (length xs)
 length-snoc xs k = omega (arith, length-append xs (k ∷ []))

@@ -10,7 +10,7 @@ use lib.ListN.{length, getD}
 use borrow.Author.Tests.{eqb-true}
 use Rattle.batch.specs.Good.{verdictOf, goodRecord, batchGood, tempGood, nameLengthGood, nameGood, widthsGood, nameCellsGood}
 use Rattle.hops.specs.Hops.{hops, next}
-use Rattle.network.specs.Counting.{sum, weigh, allOf, allBelow}
+use Rattle.network.specs.Counting.{sum}
 use Rattle.network.specs.Calls.{arrival}
 use Rattle.network.specs.Calls
 use Rattle.network.specs.Edges.{Edge, ask, edges, EdgesHold, ListingHolds, TurnHolds}

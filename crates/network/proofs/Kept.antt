@@ -1,6 +1,6 @@
--- Every accepted receive, send, enter and move keeps a sound started ring sound. A step is taken apart into changes of one table,
--- each of which keeps all clauses but `once` (Fit). Between them the channel at work stands nowhere (Off): then its phase may
--- change, and its message may come back at a fit place. Assumes nothing.
+-- Theory. Every accepted receive, send, enter and move keeps a sound started ring sound. A step is taken apart into changes of one table,
+-- each of which keeps all clauses but `once` (Fit). Between them the channel at work stands nowhere (Off): then its phase may change, and
+-- its message may come back at a fit place. Assumes nothing.
 use Prim.Native.Nat.{ℕ, suc, _+_, _≤_, _<_}
 use mathlib.Core.Path.{_≡_, refl, sym, ap, _∙_}
 use mathlib.Core.Logic.{_≢_}
@@ -9,19 +9,19 @@ use mathlib.Core.List.{List, [], _∷_, _++_}
 use mathlib.Core.Option.{Option, none, some}
 use native.Mathlib.Omega.{arith}
 use lib.Dec.{eqb}
-use lib.ListN.{length, length-append}
+use lib.ListN.{length}
 use Rattle.batch.specs.declared.BatchRecord.{BatchRecord}
 use Rattle.batch.specs.Good.{goodRecord}
 use Rattle.hops.specs.Hops.{hops, next}
-use Rattle.network.specs.Counting.{one, sum, count, occupied}
+use Rattle.network.specs.Counting.{one, count, occupied}
 use Rattle.network.specs.Network.{Phase, resting, asking, ready, answering, moving}
 use Rattle.network.specs.Sound.{isReady, goodOffer, goodCarried}
 use Rattle.network.specs.Calls.{Event}
 use Rattle.network.specs.Runs.{Call}
 use Rattle.network.proofs.Cases.{by-same, by-test}
-use Rattle.network.proofs.Counting.{sum-term, count-same, count-other, length-snoc, one-most}
+use Rattle.network.proofs.Counting.{sum-term, count-same, count-other, length-snoc, occupied-split, one-most}
 use Rattle.hops.proofs.Laws.{hops-step, next-below}
-use Rattle.network.proofs.State.{Net, State, Sound, Did, upd, upd-same, upd-other, upd-at, turn, join, pop, push, pass, here, entryIn, targetIn, did-receive, did-offer, did-answer, did-enter, did-pass, did-ask, did-respond, did-deliver}
+use Rattle.network.proofs.State.{Net, State, Sound, Did, upd, upd-same, upd-other, upd-at, turn, join, pop, push, pass, here, entryIn, targetIn, ends-below, did-receive, did-offer, did-answer, did-enter, did-pass, did-ask, did-respond, did-deliver}
 use Rattle.network.proofs.Load.{withBuffer, withLine, withMark, standing, count-cons, count-snoc, count-apart, load-pop, load-join, load-pass, load-push}
 
 -- lists of channels
@@ -41,52 +41,48 @@ pub every-snoc : {P : ℕ → Type 0} (k : ℕ) (xs : List ℕ) → P k → Ever
 every-snoc k xs last every j l =
     by-same k j (λ e. rw e at last) (λ d. every j (omega (arith, count-snoc j k xs, count-other k j d)))
 
-pub occupied-snoc : (xs : List ℕ) (k : ℕ) → occupied (xs ++ (k ∷ [])) ≡ true
-occupied-snoc [] k = refl
-occupied-snoc (x ∷ xs) k = refl
-
 module _ (N : Net) where
   open Net N using (n, c, slots, sender, receiver)
 
   -- where a channel in phase f may stand: in which buffers, in which line
-  abbrev MayPass : Phase → ℕ → ℕ → Type 0
+  abbrev pub MayPass : Phase → ℕ → ℕ → Type 0
   MayPass f p k = (k < c) × (hops n p (targetIn N f k) ≤ hops n (entryIn N f k) (targetIn N f k))
 
-  abbrev MayWait : Phase → ℕ → ℕ → Type 0
+  abbrev pub MayWait : Phase → ℕ → ℕ → Type 0
   MayWait f p k = (k < c) × (p ≡ entryIn N f k)
 
   -- all that stand in xs may stand so at p, in the phases that they have in σ
-  abbrev AllPass : State → ℕ → List ℕ → Type 0
+  abbrev pub AllPass : State → ℕ → List ℕ → Type 0
   AllPass σ p xs = Every (λ k. MayPass (σ .phase k) p k) xs
 
-  abbrev AllWait : State → ℕ → List ℕ → Type 0
+  abbrev pub AllWait : State → ℕ → List ℕ → Type 0
   AllWait σ p xs = Every (λ k. MayWait (σ .phase k) p k) xs
 
   -- a channel may have phase f and offer o
-  record Good (f : Phase) (o : Option BatchRecord) : Type 0 where
-    bare : f ≡ ready → o ≡ none
-    offer : goodOffer o ≡ true
-    carried : goodCarried f ≡ true
+  pub record Good (f : Phase) (o : Option BatchRecord) : Type 0 where
+    pub bare : f ≡ ready → o ≡ none
+    pub offer : goodOffer o ≡ true
+    pub carried : goodCarried f ≡ true
 
   good-bare : {f : Phase} → goodCarried f ≡ true → Good f none
   good-bare carried = record { bare = λ _. refl; offer = refl; carried = carried }
 
-  good-unready : {f : Phase} {o : Option BatchRecord} → isReady f ≡ false → goodOffer o ≡ true → goodCarried f ≡ true → Good f o
+  pub good-unready : {f : Phase} {o : Option BatchRecord} → isReady f ≡ false → goodOffer o ≡ true → goodCarried f ≡ true → Good f o
   good-unready unready offer carried =
       record { bare = λ e. absurd (false≢true (sym unready ∙ ap isReady e)); offer = offer; carried = carried }
 
   -- the clauses of a sound ring that a step can touch, but for `once`
-  record Fit (σ : State) : Type 0 where
-    fits : (p : ℕ) → p < n → length (σ .buffer p) ≤ slots p
-    in-buffer : (p : ℕ) → p < n → AllPass σ p (σ .buffer p)
-    in-line : (p : ℕ) → p < n → AllWait σ p (σ .line p)
-    marked : (p : ℕ) → p < n → σ .mark p ≡ true → occupied (σ .line p) ≡ true
-    good : (k : ℕ) → k < c → Good (σ .phase k) (σ .offer k)
+  pub record Fit (σ : State) : Type 0 where
+    pub fits : (p : ℕ) → p < n → length (σ .buffer p) ≤ slots p
+    pub in-buffer : (p : ℕ) → p < n → AllPass σ p (σ .buffer p)
+    pub in-line : (p : ℕ) → p < n → AllWait σ p (σ .line p)
+    pub marked : (p : ℕ) → p < n → σ .mark p ≡ true → occupied (σ .line p) ≡ true
+    pub good : (k : ℕ) → k < c → Good (σ .phase k) (σ .offer k)
 
   good-of : {σ : State} → Sound N σ → (k : ℕ) → k < c → Good (σ .phase k) (σ .offer k)
   good-of s k l = record { bare = s .ready-bare k l; offer = s .good-offer k l; carried = s .good-carried k l }
 
-  fit-of : {σ : State} → Sound N σ → Fit σ
+  pub fit-of : {σ : State} → Sound N σ → Fit σ
   fit-of s =
       record { fits = s .fits; in-buffer = s .in-buffer; in-line = s .in-line; marked = s .marked; good = good-of s }
 
@@ -108,12 +104,6 @@ module _ (N : Net) where
         more-slots = s .more-slots;
       }
 
-  ends-below : {σ : State} → Sound N σ → (k : ℕ) → k < c → (f : Phase) → (entryIn N f k < n) × (targetIn N f k < n)
-  ends-below s k l resting = (s .receiver-below k l, s .sender-below k l)
-  ends-below s k l asking = (s .receiver-below k l, s .sender-below k l)
-  ends-below s k l ready = (s .sender-below k l, s .receiver-below k l)
-  ends-below s k l (answering x) = (s .sender-below k l, s .receiver-below k l)
-
   -- one table changes
 
   fit-buffer : {σ : State} → Fit σ → (p : ℕ) (xs : List ℕ) → length xs ≤ slots p →
@@ -128,7 +118,7 @@ module _ (N : Net) where
         good = t .good;
       }
 
-  fit-line : {σ : State} → Fit σ → (p : ℕ) (xs : List ℕ) → AllWait σ p xs →
+  pub fit-line : {σ : State} → Fit σ → (p : ℕ) (xs : List ℕ) → AllWait σ p xs →
       (σ .mark p ≡ true → occupied xs ≡ true) → Fit (withLine p xs σ)
   fit-line {σ} t p xs every mark =
       record {
@@ -141,7 +131,7 @@ module _ (N : Net) where
         good = t .good;
       }
 
-  fit-mark : {σ : State} → Fit σ → (p : ℕ) (b : Bool) → (b ≡ true → occupied (σ .line p) ≡ true) → Fit (withMark p b σ)
+  pub fit-mark : {σ : State} → Fit σ → (p : ℕ) (b : Bool) → (b ≡ true → occupied (σ .line p) ≡ true) → Fit (withMark p b σ)
   fit-mark {σ} t p b mark =
       record {
         fits = t .fits;
@@ -171,16 +161,16 @@ module _ (N : Net) where
       }
 
   -- the ring is sound but for channel k, which stands nowhere
-  record Off (k : ℕ) (σ : State) : Type 0 where
-    fit : Fit σ
-    nowhere : here N σ k ≡ 0
-    others : (j : ℕ) → j < c → j ≢ k → here N σ j ≡ one (moving (σ .phase j))
+  pub record Off (k : ℕ) (σ : State) : Type 0 where
+    pub fit : Fit σ
+    pub nowhere : here N σ k ≡ 0
+    pub others : (j : ℕ) → j < c → j ≢ k → here N σ j ≡ one (moving (σ .phase j))
 
   off-still : {σ : State} → Sound N σ → (k : ℕ) → k < c → moving (σ .phase k) ≡ false → Off k σ
   off-still s k l still = record { fit = fit-of s; nowhere = rw still at (s .once k l); others = λ j m _. s .once j m }
 
   module _ {σ : State} (s : Sound N σ) (p k : ℕ) (ks : List ℕ) (l : p < n) (e : σ .buffer p ≡ k ∷ ks) where
-    first-passes : MayPass (σ .phase k) p k
+    pub first-passes : MayPass (σ .phase k) p k
     first-passes = every-first k e (s .in-buffer p l)
 
     fit-pop : Fit (pop p ks σ)
@@ -192,7 +182,7 @@ module _ (N : Net) where
     here-pop j = load-pop N (standing j) σ p l k ks e
 
     -- the first of a buffer stands nowhere else, so taken out it stands nowhere
-    off-pop : Off k (pop p ks σ)
+    pub off-pop : Off k (pop p ks σ)
     off-pop =
         record {
           fit = fit-pop;
@@ -208,7 +198,7 @@ module _ (N : Net) where
         let m : q < n = next-below n p l in
         let target : ℕ = targetIn N (σ .phase k) k in
         let nearer : hops n p target ≡ suc (hops n q target) =
-        hops-step n p target l (ends-below s k (first-passes .0) (σ .phase k) .1) not-there in
+        hops-step n p target l (ends-below N s k (first-passes .0) (σ .phase k) .1) not-there in
         let xs : List ℕ = upd p ks (σ .buffer) q in
         let same : xs ≡ σ .buffer q = upd-other p ks (σ .buffer) q apart in
         let b : Bool = σ .mark q || occupied (σ .line q) in
@@ -229,7 +219,7 @@ module _ (N : Net) where
         (λ p l h. absurd (omega (arith, none-at p l)))
 
     -- with no message
-    put-by : moving f ≡ false → Sound N (turn k f o σ)
+    pub put-by : moving f ≡ false → Sound N (turn k f o σ)
     put-by still =
         sound-again s fit-off
         (upd-at (λ j g. j < c → here N σ j ≡ one (moving g)) k f (σ .phase) (λ _. rw still (off .nowhere))
@@ -239,12 +229,12 @@ module _ (N : Net) where
     put-in : k < c → moving f ≡ true → Sound N (join (entryIn N f k) k (turn k f o σ))
     put-in l goes =
         let p : ℕ = entryIn N f k in
-        let m : p < n = ends-below s k l f .0 in
+        let m : p < n = ends-below N s k l f .0 in
         let more : (j : ℕ) → here N (join p k σ) j ≡ here N σ j + one (eqb k j) = λ j. load-join N (standing j) σ p m k in
         sound-again s
         (fit-line fit-off p (σ .line p ++ (k ∷ []))
         (every-snoc k (σ .line p) (l, rw (upd-same k f (σ .phase))) (fit-off .in-line p m))
-        (λ _. occupied-snoc (σ .line p) k))
+        (λ _. occupied-split (σ .line p) k []))
         (upd-at (λ j g. j < c → here N (join p k σ) j ≡ one (moving g)) k f (σ .phase)
         (λ _. rw goes (omega (arith, more k, off .nowhere, count-same k)))
         (λ j d i. omega (arith, more j, off .others j i d, count-apart j k d)))

@@ -1,6 +1,6 @@
--- A number that falls with every accepted receive, send, entry and move while a record is matched on channel m, until it is delivered:
--- what the others weigh on their way to m's node, the delay of m there, and the way that m has to go. When m itself goes on, each other
--- channel weighs at most 3 more, and the way that m went pays for it. Assumes nothing.
+-- Theory. A number that falls with every accepted receive, send, entry and move while a record is matched on channel m, until it is
+-- delivered: what the others weigh on their way to m's node, the delay of m there, and the way that m has to go. When m itself goes on,
+-- each other channel weighs at most 3 more, and the way that m went pays for it. Assumes nothing.
 use Prim.Native.Nat.{ℕ, suc, _+_, _*_, _≤_, _<_}
 use mathlib.Core.Path.{_≡_, refl, sym, ap, _∙_}
 use mathlib.Core.Logic.{_≢_, _⊎_, inl, inr}
@@ -14,17 +14,18 @@ use borrow.Author.Tests.{ne-eqb}
 use Rattle.batch.specs.declared.BatchRecord.{BatchRecord}
 use Rattle.hops.specs.Hops.{hops, next}
 use Rattle.network.specs.Counting.{one, sum, count}
-use Rattle.network.specs.Network.{Phase, resting, asking, ready, answering, moving}
+use Rattle.network.specs.Network.{Phase, resting, asking, ready, answering}
 use Rattle.network.specs.Sound.{absent}
 use Rattle.network.specs.Calls.{Event, delivered}
 use Rattle.network.specs.Runs.{Call, matchedIn, handedOn}
 use Rattle.network.proofs.Cases.{by-same, by-less}
 use Rattle.network.proofs.Counting.{sum-but, sum-add, sum-none, sum-term, sum-ones, sum-some, one-most}
 use Rattle.hops.proofs.Laws.{hops-from-one, hops-to-n, hops-step, next-below}
-use Rattle.network.proofs.State.{upd, upd-same, upd-other, upd-at, Net, State, turn, join, pop, push, pass, entryIn, targetIn, Sound, Did, did-receive, did-offer, did-answer, did-enter, did-pass, did-ask, did-respond, did-deliver, matchOf}
+use Rattle.network.proofs.State.{upd, upd-same, upd-other, upd-at, Net, State, turn, join, pop, push, pass, entryIn, targetIn, Sound, Did, did-receive, did-offer, did-answer, did-enter, did-pass, did-ask, did-respond, did-deliver, matchOf, matched-moving}
 use Rattle.network.proofs.Away.{away, away-here, away-below, away-next, away-first, away-on}
 use Rattle.network.proofs.Weight.{nodeWeight, weighs, channelWeight, weight, weight-turn, weight-join, weight-pop, weight-push, weight-pass, messages, quiet, all-channels, compare-all, entry-below, target-below}
-use Rattle.network.proofs.Place.{Stands, buffered, waiting, stands-same, stands-turn, stands-join, stands-pass, stands-push, stands-pop, stands-once, count-split, count-split-some}
+use Rattle.network.proofs.Kept.{first-passes}
+use Rattle.network.proofs.Place.{Stands, buffered, waiting, stands-same, stands-turn, stands-join, stands-pass, stands-push, stands-pop, stands-once, count-split}
 
 module _ (N : Net) where
   open Net N using (n, c, slots, sender, receiver)
@@ -296,9 +297,6 @@ module _ (N : Net) where
           let here : Stands m σ p 0 = buffered [] ks first (omega arith) in
           stands-once m s lm la lp stands here
 
-      below-c : (p k : ℕ) (ks : List ℕ) → p < n → σ .buffer p ≡ k ∷ ks → k < c
-      below-c p k ks lp first = s .in-buffer p lp k (rw first (count-split-some k [] ks)) .0
-
       falls-at : {a : Call} {e : Event} {τ : State} → Did N σ a e τ →
           (e ≡ delivered m x) ⊎ ((handedOn m e ≡ []) × Nearer x (measure σ at d) τ)
       falls-at (did-receive k lk rests) =
@@ -329,7 +327,7 @@ module _ (N : Net) where
       falls-at (did-ask p k ks lp first asks arrives bare) =
           inr (
             refl,
-            other-turned p k ks ready none lp (below-c p k ks lp first) first (other k (rw (asks, bare) refl))
+            other-turned p k ks ready none lp (first-passes N s p k ks lp first .0) first (other k (rw (asks, bare) refl))
                 (rw (asks, bare, arrives) (omega arith)),
           )
       falls-at (did-respond p k ks y lp first asks arrives offer) =
@@ -341,7 +339,7 @@ module _ (N : Net) where
                 Nearer x (measure σ at d) (join (sender k) k (turn k (answering y) none (pop p ks σ))) =
                 rw (← same) λ f g h i. rw (own-node p ks lp f) (own-answered x s lm match d p ks lp f y g h i) in
                 own first asks arrives offer)
-                (λ dk. other-answered p k ks y lp (below-c p k ks lp first) first dk asks arrives offer),
+                (λ dk. other-answered p k ks y lp (first-passes N s p k ks lp first .0) first dk asks arrives offer),
           )
       falls-at (did-deliver p k ks y lp first answers arrives) =
           by-same k m
@@ -351,7 +349,7 @@ module _ (N : Net) where
           inl (rw (same, given) refl))
           (λ dk. inr (
             rw (ne-eqb k m dk) refl,
-            other-turned p k ks resting (σ .offer k) lp (below-c p k ks lp first) first (λ e. dk (sym e))
+            other-turned p k ks resting (σ .offer k) lp (first-passes N s p k ks lp first .0) first (λ e. dk (sym e))
                 (rw (answers, arrives) (omega arith)),
           ))
 
@@ -369,13 +367,13 @@ module _ (N : Net) where
         waiting (split .0) (split .1) (split .2)
         (omega (arith, few, one-most (not (σ .mark p)), ap length (split .2), length-append (split .0) (m ∷ split .1))))
 
-    -- Matched on m with x, m stands somewhere, and the number is at most the bound of document 01.
+    -- Matched on m with x, m stands somewhere, and the number is at most the bound of document 01, with c to spare.
     pub placed : {x : BatchRecord} {σ : State} → Sound N σ → m < c → matchOf N σ m ≡ some x →
-        (P : Place σ) × (Ψ P ≤ (n + 4) * (2 * sum n slots + 2 * (c * n) + 6 * c))
+        (P : Place σ) × (Ψ P + c ≤ (n + 4) * (2 * sum n slots + 2 * (c * n) + 6 * c))
     unfolding Ψ
     placed {x} {σ} s lm match =
         let found = sum-some n (λ p. count m (σ .buffer p) + count m (σ .line p))
-        (omega (arith, s .once m lm, moves (σ .phase m) (σ .offer m) match)) in
+        (omega (arith, s .once m lm, ap one (matched-moving (σ .phase m) (σ .offer m) x match))) in
         let at : ℕ = found .0 in
         let l : at < n = found .1 in
         let some-node : 1 ≤ n = omega arith in
@@ -391,12 +389,6 @@ module _ (N : Net) where
           ),
         )
       where
-        moves : (f : Phase) (o : Option BatchRecord) → matchedIn f o ≡ some x → one (moving f) ≡ 1
-        moves resting o e = absurd (Option·none-ne-some x e)
-        moves asking o e = refl
-        moves ready o e = absurd (Option·none-ne-some x e)
-        moves (answering y) o e = refl
-
         rounds-most : (f : Phase) → rounds f ≤ 2
         rounds-most resting = omega arith
         rounds-most asking = omega arith

@@ -1,10 +1,10 @@
--- The laws between a ring in memory and the ring that it holds (specs/Layout): a ring for which there is room is read off as it was laid
--- out; a ring in memory that is laid out as it should be is what is laid out for the ring that it holds; and a sound ring has room, since
--- its records are good and no line holds a channel twice. Assumes nothing.
+-- Memory. The laws between a ring in memory and the ring that it holds (specs/Layout): a ring for which there is room is read off as it
+-- was laid out; a ring in memory that is laid out as it should be is what is laid out for the ring that it holds; and a sound ring has
+-- room, since its records are good and no line holds a channel twice. Assumes nothing.
 use Prim.Native.Nat.{ℕ, _+_, _≤_, _<_}
 use mathlib.Core.Path.{_≡_, refl, sym, ap, subst, _∙_}
 use mathlib.Core.Logic.{_↔_}
-use mathlib.Core.Bool.{Bool, true, false, false≢true, _&&_}
+use mathlib.Core.Bool.{Bool, true, false, false≢true}
 use mathlib.Core.List.{List, [], _∷_, append-nil}
 use mathlib.Core.Option.{Option, none, some}
 use native.Mathlib.Omega.{arith}
@@ -21,11 +21,12 @@ use Rattle.network.specs.Counting.{one, sum, count, tabulate}
 use Rattle.network.specs.Network.{Network, NodeState, ChannelState, Phase, resting, asking, ready, answering, ringOf, fresh, nodeCount, channelCount, noNode, noChannel, node, channel, moving, timesOn}
 use Rattle.network.specs.Sound.{goodOffer, goodCarried}
 use Rattle.network.specs.Sound
-use Rattle.network.specs.Layout.{ringLimits, nodeRoom, channelRoom, rowLength, cellRoom, recordRoom, row, padded, rows, cellsOf, queueOf, phaseCode, phaseOf, offeredFlag, offerOf, viewNode, viewChannel, view, offerBytes, carriedBytes, byNode, byChannel, holdHead, hold, freshRing, same, sameHead, sameRing, laidOut, soundRing}
+use Rattle.network.specs.Layout.{ringLimits, nodeRoom, channelRoom, rowLength, cellRoom, recordRoom, row, padded, rows, cellsOf, phaseCode, phaseOf, offeredFlag, offerOf, viewNode, viewChannel, view, offerBytes, carriedBytes, byNode, byChannel, headOf, ringIn, holdHead, hold, freshRing, same, sameHead, sameRing, laidOut, soundRing}
 use Rattle.network.proofs.Counting.{sum-le, sum-term, sum-ones, length-counts, one-most}
+use Rattle.network.proofs.Cases.{and-both, both-so}
 use Rattle.network.proofs.Tests.{reads, and-reads}
 use Rattle.network.proofs.Clauses.{Facts, facts}
-use Rattle.network.proofs.Rows.{padded-whole, length-tabulate, getD-tabulate, tabulate-is, queue-cells, rows-length, row-rows}
+use Rattle.network.proofs.Rows.{padded-whole, getD-tabulate, tabulate-is, queue-cells, rows-length, row-rows}
 
 -- a ring for which there is room: in the arrays, in the rows, and in the bytes of a record
 
@@ -154,31 +155,16 @@ module _ (σ : Network) (fits : Fits σ) where
   node-read : (p : ℕ) → p < nodeCount σ → viewNode (hold σ) p ≡ node σ p
   node-read p l =
       let h = held-node σ p (omega (arith, fits .nodes-fit)) in
-      rw (
-        h .capacity,
-        h .used,
-        h .waiting,
-        h .mark,
-        h .buffer-row,
-        h .line-row,
-        queue-cells rowLength (node σ p .buffer) (fits .buffer-fits p l),
-        queue-cells rowLength (node σ p .line) (fits .line-fits p l),
-        flag-read (node σ p .mark),
-      )
+      let buffer = queue-cells rowLength (node σ p .buffer) (fits .buffer-fits p l) in
+      let line = queue-cells rowLength (node σ p .line) (fits .line-fits p l) in
+      rw (h .capacity, h .used, h .waiting, h .mark, h .buffer-row, h .line-row, buffer, line, flag-read (node σ p .mark))
 
   channel-read : (k : ℕ) → k < channelCount σ → viewChannel (hold σ) k ≡ channel σ k
   channel-read k l =
       let h = held-channel σ k (omega (arith, fits .channels-fit)) in
-      rw (
-        h .sender,
-        h .receiver,
-        h .phase,
-        h .offered,
-        h .offer-row,
-        h .carried-row,
-        phase-read (channel σ k .phase) (fits .carried-fits k l),
-        offer-read (channel σ k .offer) (fits .offer-fits k l),
-      )
+      let phase = phase-read (channel σ k .phase) (fits .carried-fits k l) in
+      let offer = offer-read (channel σ k .offer) (fits .offer-fits k l) in
+      rw (h .sender, h .receiver, h .phase, h .offered, h .offer-row, h .carried-row, phase, offer)
 
   pub view-hold : view (hold σ) ≡ σ
   unfolding view hold holdHead
@@ -189,7 +175,7 @@ module _ (σ : Network) (fits : Fits σ) where
       tabulate-is (channelCount σ) (viewChannel (hold σ)) noChannel (σ .channels) refl channel-read in
       λ i. ringOf (flag-read (σ .started) i) (nodes i) (channels i) (σ .deliveries)
 
--- the test of the layout says that two rings are the same
+-- the test of the layout says that two rings are the same, and a ring passes it against itself
 
 same-is : (xs ys : List ℕ) → same xs ys ≡ true → xs ≡ ys
 unfolding same
@@ -198,59 +184,45 @@ same-is [] (y ∷ ys) e = absurd (false≢true e)
 same-is (x ∷ xs) [] e = absurd (false≢true e)
 same-is (x ∷ xs) (y ∷ ys) e = let parts = simp reads at e in rw (parts .0, same-is xs ys (parts .1))
 
+number-self : (x : ℕ) → eqb x x ≡ true
+number-self x = eq-eqb x x refl
+
 same-self : (xs : List ℕ) → same xs xs ≡ true
 unfolding same
 same-self [] = refl
-same-self (x ∷ xs) = rw (eq-eqb x x refl, same-self xs)
+same-self (x ∷ xs) = rw (number-self x, same-self xs)
 
 same-reads : (xs ys : List ℕ) → (same xs ys ≡ true) ↔ (xs ≡ ys)
 same-reads xs ys = (same-is xs ys, λ e. rw e (same-self ys))
 
 ruleset sames = (reads, same-reads)
 
+-- the parts of a head, from the last to the first
 same-head-is : (a b : Head) → sameHead a b ≡ true → a ≡ b
 unfolding sameHead
 same-head-is a b e =
-    let parts = simp sames at e in
-    let counts = parts .0 .0 .0 .0 .0 .0 .0 .0 in
-    let nodes = parts .0 .0 .0 .0 in
+    let all = simp sames at e in
+    both-so all λ all offered. both-so all λ all phases. both-so all λ all receivers. both-so all λ all senders.
+    both-so all λ all marks. both-so all λ all waiting. both-so all λ all used. both-so all λ all capacity.
+    both-so all λ all spare. both-so all λ all channels. both-so all λ all nodes. both-so all λ deliveries started.
     λ i.
-    record {
-      deliveries = counts .0 .0 .0 .0 i;
-      started = counts .0 .0 .0 .1 i;
-      «node_count» = counts .0 .0 .1 i;
-      «channel_count» = counts .0 .1 i;
-      spare = counts .1 i;
-      capacity = nodes .0 .0 .0 .1 i;
-      used = nodes .0 .0 .1 i;
-      waiting = nodes .0 .1 i;
-      marks = nodes .1 i;
-      senders = parts .0 .0 .0 .1 i;
-      receivers = parts .0 .0 .1 i;
-      phases = parts .0 .1 i;
-      offered = parts .1 i;
-    }
+    headOf (deliveries i) (started i) (nodes i) (channels i) (spare i) (capacity i) (used i) (waiting i) (marks i)
+    (senders i) (receivers i) (phases i) (offered i)
 
 same-head-self : (a : Head) → sameHead a a ≡ true
 unfolding sameHead
-same-head-self a = simp sames ((((((((((((refl, refl), refl), refl), refl), refl), refl), refl), refl), refl), refl), refl), refl)
+same-head-self a = simp (number-self, same-self)
 
 same-ring-is : (a b : Ring) → sameRing a b ≡ true → a ≡ b
 unfolding sameRing
 same-ring-is a b e =
-    let parts = simp sames at e in
-    λ i.
-    record {
-      head = same-head-is (a .head) (b .head) (parts .0 .0 .0 .0) i;
-      slots = parts .0 .0 .0 .1 i;
-      lines = parts .0 .0 .1 i;
-      offers = parts .0 .1 i;
-      carried = parts .1 i;
-    }
+    let all = simp sames at e in
+    both-so all λ all carried. both-so all λ all offers. both-so all λ all lines. both-so all λ head slots.
+    λ i. ringIn (same-head-is (a .head) (b .head) head i) (slots i) (lines i) (offers i) (carried i)
 
 same-ring-self : (a : Ring) → sameRing a a ≡ true
 unfolding sameRing
-same-ring-self a = simp sames ((((same-head-self (a .head), refl), refl), refl), refl)
+same-ring-self a = simp (same-head-self, same-self)
 
 -- so a ring that is laid out is the one that is laid out for what it holds, and what is laid out for a ring that fits passes
 
@@ -322,12 +294,12 @@ pub record SoundRing (ring : Ring) : Type 0 where
 pub sound-ring : (ring : Ring) → soundRing ring ≡ true → SoundRing ring
 unfolding soundRing
 sound-ring ring e =
-    let parts = simp and-reads at e in
-    let known = facts ringLimits (view ring) (parts .1) in
-    let laid-out : hold (view ring) ≡ ring = hold-view ring (parts .0) in
+    both-so (simp and-reads at e) λ laid sound.
+    let known = facts ringLimits (view ring) sound in
+    let laid-out : hold (view ring) ≡ ring = hold-view ring laid in
     record {
       laid-out = laid-out;
-      sound = parts .1;
+      sound = sound;
       facts = known;
       fits = sound-fits (view ring) known;
       holds = subst (λ r. Held r (view ring)) laid-out (held (view ring));
@@ -335,7 +307,7 @@ sound-ring ring e =
 
 pub is-sound-ring : (ring : Ring) → hold (view ring) ≡ ring → Sound.sound ringLimits (view ring) ≡ true → soundRing ring ≡ true
 unfolding soundRing
-is-sound-ring ring laid-out sound = simp and-reads (held-laid-out ring laid-out, sound)
+is-sound-ring ring laid-out sound = and-both _ _ (held-laid-out ring laid-out) sound
 
 -- a sound ring is laid out as a sound ring in memory
 pub sound-hold : (σ : Network) → Sound.sound ringLimits σ ≡ true → soundRing (hold σ) ≡ true

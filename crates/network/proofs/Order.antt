@@ -1,18 +1,16 @@
--- Records keep their order on a channel: what was offered and not yet delivered is the record carried, if the channel is answering, and
--- then the record offered. Every step keeps "offered is delivered and then pending". Assumes nothing.
+-- Theory. Records keep their order on a channel: what was offered and not yet delivered is the record carried, if the channel is
+-- answering, and then the record offered. Every step keeps "offered is delivered and then pending". Assumes nothing.
 use Prim.Native.Nat.{ℕ}
 use mathlib.Core.Path.{_≡_, refl, sym}
 use mathlib.Core.Logic.{_≢_}
-use mathlib.Core.Bool.{Bool, true, false, cond}
 use mathlib.Core.List.{List, [], _∷_, _++_, append-nil}
 use mathlib.Core.Option.{Option, none, some}
-use lib.Dec.{eqb}
 use borrow.Author.Tests.{eq-eqb, ne-eqb}
 use Rattle.batch.specs.declared.BatchRecord.{BatchRecord}
 use Rattle.network.specs.Network.{Phase, resting, asking, ready, answering}
-use Rattle.network.specs.Calls.{Event, done, delivered}
-use Rattle.network.specs.Runs.{Call, receive, send, enter, move, sentOn, handedOn}
-use Rattle.network.proofs.Cases.{by-same, by-option, by-phase}
+use Rattle.network.specs.Calls.{Event}
+use Rattle.network.specs.Runs.{Call, onChannel, sentOn, handedOn}
+use Rattle.network.proofs.Cases.{by-same}
 use Rattle.network.proofs.State.{Net, State, Sound, Did, did-receive, did-offer, did-answer, did-enter, did-pass, did-ask, did-respond, did-deliver, upd, upd-same, upd-other}
 
 abbrev pub carriedList : Phase → List BatchRecord
@@ -42,14 +40,12 @@ at-channel σ k j f o xs ys same other =
     (λ d. rw (other d .0, other d .1, upd-other k f (σ .phase) j d, upd-other k o (σ .offer) j d) (append-nil _))
 
 -- record x, sent or handed out on channel k, as channel j sees it
-abbrev on : ℕ → BatchRecord → ℕ → List BatchRecord
-on k x j = cond (eqb k j) (x ∷ []) []
 
-on-same : (k : ℕ) (x : BatchRecord) (j : ℕ) → j ≡ k → on k x j ≡ x ∷ []
-on-same k x j e = rw (eq-eqb k j (sym e))
+on-same : (j k : ℕ) (x : BatchRecord) → j ≡ k → onChannel j k x ≡ x ∷ []
+on-same j k x e = rw (eq-eqb k j (sym e))
 
-on-other : (k : ℕ) (x : BatchRecord) (j : ℕ) → j ≢ k → on k x j ≡ []
-on-other k x j d = rw (ne-eqb k j (λ e. d (sym e)))
+on-other : (j k : ℕ) (x : BatchRecord) → j ≢ k → onChannel j k x ≡ []
+on-other j k x d = rw (ne-eqb k j (λ e. d (sym e)))
 
 module _ (N : Net) where
   pub in-order-step : {σ τ : State} {a : Call} {e : Event} → Sound N σ → Did N σ a e τ → (j : ℕ) →
@@ -57,15 +53,15 @@ module _ (N : Net) where
   in-order-step {σ} s (did-receive k l r) j =
       at-channel σ k j asking (σ .offer k) [] [] (λ e. rw r (append-nil _)) (λ d. (refl, refl))
   in-order-step {σ} s (did-offer k x l g o r) j =
-      at-channel σ k j (σ .phase k) (some x) (on k x j) [] (λ e. rw (on-same k x j e, o, append-nil)) (λ d. (on-other k x j d, refl))
+      at-channel σ k j (σ .phase k) (some x) (onChannel j k x) [] (λ e. rw (on-same j k x e, o, append-nil)) (λ d. (on-other j k x d, refl))
   in-order-step {σ} s (did-answer k x l g r) j =
-      at-channel σ k j (answering x) none (on k x j) [] (λ e. rw (on-same k x j e, r, s .ready-bare k l r))
-      (λ d. (on-other k x j d, refl))
+      at-channel σ k j (answering x) none (onChannel j k x) [] (λ e. rw (on-same j k x e, r, s .ready-bare k l r))
+      (λ d. (on-other j k x d, refl))
   in-order-step s (did-enter p k ks l e r) j = append-nil _
   in-order-step s (did-pass p k ks l e t d r m) j = append-nil _
   in-order-step {σ} s (did-ask p k ks l e r t o) j = at-channel σ k j ready none [] [] (λ i. rw (r, o)) (λ d. (refl, refl))
   in-order-step {σ} s (did-respond p k ks x l e r t o) j =
       at-channel σ k j (answering x) none [] [] (λ i. rw (r, o)) (λ d. (refl, refl))
   in-order-step {σ} s (did-deliver p k ks x l e r t) j =
-      at-channel σ k j resting (σ .offer k) [] (on k x j) (λ i. rw (on-same k x j i, r) (append-nil _))
-      (λ d. (refl, on-other k x j d))
+      at-channel σ k j resting (σ .offer k) [] (onChannel j k x) (λ i. rw (on-same j k x i, r) (append-nil _))
+      (λ d. (refl, on-other j k x d))

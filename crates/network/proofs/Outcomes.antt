@@ -1,5 +1,6 @@
--- How laws about calls are stated: `After` says what holds wherever a call is accepted, and goes by the order of the call's refusals, so
--- that a law sees only the rings that pass them all. `Silent` is a call that the account of a run does not see. Assumes nothing.
+-- Lists. How laws about calls are stated: `After` says what holds wherever a call is accepted, and goes by the order of the call's
+-- refusals, so that a law sees only the rings that pass them all. `Silent` is a call that the account of a run does not see. Assumes
+-- nothing.
 use Prim.Native.Nat.{ℕ}
 use mathlib.Core.Path.{_≡_, refl}
 use mathlib.Core.Bool.{Bool, true, false}
@@ -17,9 +18,6 @@ pub data After (P : Event → Network → Type 0) : Outcome Network → Type 0 w
   was-done : {e : Event} {τ : Network} → P e τ → After P (accepted e τ)
 
 module _ {P : Event → Network → Type 0} where
-  pub after-accepted : {e : Event} {τ : Network} → After P (accepted e τ) → P e τ
-  after-accepted (was-done h) = h
-
   -- behind a refusal only the rings that pass its test matter
   pub if-met : (b : Bool) (r : Refusal) (o : Outcome Network) → (b ≡ true → After P o) → After P (unless b (refused r) o)
   if-met true r o h = h refl

@@ -1,20 +1,20 @@
--- Where the message of channel m stands, and a bound on its delay: how many others may still leave that node before it. Each change that
--- steps are made of keeps the place and the bound, unless it moves m itself; a message that leaves ahead of m takes one off.
+-- Theory. Where the message of channel m stands, and a bound on its delay: how many others may still leave that node before it. Each
+-- change that steps are made of keeps the place and the bound, unless it moves m itself; a message that leaves ahead of m takes one off.
 -- Assumes nothing.
 use Prim.Native.Nat.{ℕ, suc, _+_, _*_, _≤_, _<_}
 use mathlib.Core.Path.{_≡_, refl, sym, ap, _∙_}
 use mathlib.Core.Logic.{_≢_}
-use mathlib.Core.Bool.{true, false, not}
+use mathlib.Core.Bool.{false, not}
 use mathlib.Core.List.{List, [], _∷_, _++_, append-assoc}
 use mathlib.Core.Option.{Option, none}
 use native.Mathlib.Omega.{arith}
 use lib.Dec.{eqb}
 use lib.ListN.{length}
 use Rattle.batch.specs.declared.BatchRecord.{BatchRecord}
-use Rattle.network.specs.Counting.{one, sum, weigh, count, occupied}
+use Rattle.network.specs.Counting.{one, sum, weigh, count}
 use Rattle.network.specs.Network.{Phase, moving}
 use Rattle.network.proofs.Cases.{by-same, by-list}
-use Rattle.network.proofs.Counting.{sum-but, sum-term, weigh-append, weigh-cons, count-same, count-other, length-snoc, one-most}
+use Rattle.network.proofs.Counting.{sum-but, sum-term, weigh-append, weigh-cons, count-same, count-other, length-snoc, occupied-split, one-most}
 use Rattle.network.proofs.State.{upd, upd-same, upd-other, Net, State, turn, join, pop, push, pass, Sound}
 
 -- two terms of a sum
@@ -73,13 +73,9 @@ module _ (m : ℕ) where
   stands-pass {σ} {at} {d} q k clear (waiting xs ys e l) =
       by-same at q
       (λ same. waiting xs ys e
-      (rw (same, upd-same q _ (σ .buffer), upd-same q _ (σ .mark), length-snoc, clear, ← same, e, occupied-split xs) (passed same)))
+      (rw (same, upd-same q _ (σ .buffer), upd-same q _ (σ .mark), length-snoc, clear, ← same, e, occupied-split xs m ys) (passed same)))
       (λ other. stands-same σ (pass q k σ) (upd-other q _ (σ .buffer) at other) refl (upd-other q _ (σ .mark) at other) (waiting xs ys e l))
     where
-      occupied-split : (zs : List ℕ) → occupied (zs ++ (m ∷ ys)) ≡ true
-      occupied-split [] = refl
-      occupied-split (z ∷ zs) = refl
-
       passed : at ≡ q → suc (length (σ .buffer at)) + 2 * length xs + 0 ≤ d
       passed same = let was : one (not (σ .mark at)) ≡ 1 = rw (same, clear) refl in omega arith
 

@@ -1,5 +1,5 @@
--- Laws of the lists that a layout is made of: numbers by number (`tabulate`), a list made as long as a row (`padded`), and rows of any
--- width one after the other (`row`, `rows`). `putRow` is what a function does that rewrites one row. Assumes nothing.
+-- Memory. Laws of the lists that a layout is made of: numbers by number (`tabulate`), a list made as long as a row (`padded`), and rows of
+-- any width one after the other (`row`, `rows`). `putRow` is what a function does that rewrites one row. Assumes nothing.
 use Prim.Native.Nat.{ℕ, zero, suc, pred, _+_, _*_, _-_, _≤_, _<_}
 use mathlib.Core.Path.{_≡_, refl, sym, ap, _∙_}
 use mathlib.Core.Logic.{_≢_}
@@ -122,12 +122,9 @@ padded-more n m xs e =
     rw (← e)
     (take-append-add xs (replicate (length xs + m) 0) m ∙ ap (λ r. xs ++ r) (take-blanks m (length xs + m) 0 (omega arith)))
 
--- the first part and the rest of a list made n long
+-- the first part of a list made n long
 pub padded-front : (n m : ℕ) (xs : List ℕ) → length xs ≡ m → m ≤ n → take m (padded n xs) ≡ xs
 padded-front n m xs e l = rw (padded-more n (n - m) xs (omega arith)) (take-at xs (replicate (n - m) 0) m e)
-
-pub padded-rest : (n m : ℕ) (xs : List ℕ) → length xs ≡ m → m ≤ n → drop m (padded n xs) ≡ replicate (n - m) 0
-padded-rest n m xs e l = rw (padded-more n (n - m) xs (omega arith)) (drop-at xs (replicate (n - m) 0) m e)
 
 padded-set : (n : ℕ) (xs : List ℕ) (i y : ℕ) → i < length xs → length xs ≤ n → padded n (set xs i y) ≡ set (padded n xs) i y
 unfolding padded

@@ -1,15 +1,14 @@
--- The ring cannot stall: while a message is on it, an entry or a move would be accepted at some node. If none were, a node with a line
--- would be full, and so would the node after one with a message in its buffer; then, node by node round the ring, all would be full,
+-- Theory. The ring cannot stall: while a message is on it, an entry or a move would be accepted at some node. If none were, a node with a
+-- line would be full, and so would the node after one with a message in its buffer; then, node by node round the ring, all would be full,
 -- against more slots than channels. Assumes nothing.
 use Prim.Native.Nat.{ℕ, zero, suc, _+_, _≤_, _<_}
-use mathlib.Core.Path.{_≡_, refl, sym}
+use mathlib.Core.Path.{_≡_, refl}
 use mathlib.Core.Logic.{_≢_, _⊎_, inl, inr, ⊎-elim}
-use mathlib.Core.Bool.{Bool, true, false, false≢true}
+use mathlib.Core.Bool.{true, false≢true}
 use mathlib.Core.List.{List, [], _∷_}
 use native.Mathlib.Nat.{not-suc-le-zero}
 use native.Mathlib.Omega.{arith}
 use lib.ListN.{length}
-use lib.Dec.{eqb}
 use borrow.Author.Tests.{eq-eqb, ne-eqb}
 use Rattle.hops.specs.Hops.{next}
 use Rattle.network.specs.Counting.{sum, weigh, count, occupied}
@@ -18,7 +17,7 @@ use Rattle.network.proofs.Cases.{by-test, by-same, by-less, by-list}
 use Rattle.network.proofs.Counting.{sum-le, sum-some}
 use Rattle.hops.proofs.Laws.{next-below}
 use Rattle.network.proofs.Weight.{messages, all-channels}
-use Rattle.network.proofs.State.{Net, State, Sound, CanEnter, CanMove, can-enter, can-hand, can-pass, here, targetIn}
+use Rattle.network.proofs.State.{Net, State, Sound, CanEnter, CanMove, can-enter, can-pass, here}
 
 -- a search through the numbers below n finds one, or shows that there is none
 pub find : (n : ℕ) {A B : ℕ → Type 0} → ((p : ℕ) → A p ⊎ B p) → ((p : ℕ) × (p < n) × A p) ⊎ ((p : ℕ) → p < n → B p)

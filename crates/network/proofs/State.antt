@@ -1,12 +1,12 @@
--- The theory's own picture of a started ring: what never changes after the start (Net) apart from what a step changes (State), both as
--- tables, functions of a node or a channel number. A step that was accepted is a case of `Did`, which carries what its tests showed.
--- Every theorem about steps goes by these cases and sees neither a refusal nor a layout. Assumes nothing.
-use Prim.Native.Nat.{ℕ, zero, suc, _+_, _*_, _≤_, _<_}
+-- Theory. The theory's own picture of a started ring: what never changes after the start (Net) apart from what a step changes (State),
+-- both as tables, functions of a node or a channel number. A step that was accepted is a case of `Did`, which carries what its tests
+-- showed. Every theorem about steps goes by these cases and sees neither a refusal nor a layout. Assumes nothing.
+use Prim.Native.Nat.{ℕ, _+_, _≤_, _<_}
 use mathlib.Core.Path.{_≡_, refl}
 use mathlib.Core.Logic.{_≢_}
 use mathlib.Core.Bool.{Bool, true, false, cond, _||_}
 use mathlib.Core.List.{List, [], _∷_, _++_}
-use mathlib.Core.Option.{Option, none, some}
+use mathlib.Core.Option.{Option, none, some, Option·none-ne-some}
 use lib.Dec.{eqb}
 use lib.ListN.{length}
 use borrow.Author.Tests.{eq-eqb, ne-eqb}
@@ -15,7 +15,7 @@ use Rattle.batch.specs.declared.BatchRecord.{BatchRecord}
 use Rattle.batch.specs.Good.{goodRecord}
 use Rattle.hops.specs.Hops.{hops, next}
 use Rattle.network.specs.Counting.{one, sum, count, occupied}
-use Rattle.network.specs.Network.{Phase, resting, asking, ready, answering, moving}
+use Rattle.network.specs.Network.{Phase, resting, asking, ready, answering, moving, fromEnd}
 use Rattle.network.specs.Sound.{isReady, goodOffer, goodCarried}
 use Rattle.network.specs.Calls.{Event, done, delivered}
 use Rattle.network.specs.Runs.{Call, receive, send, enter, move, matchedIn}
@@ -37,6 +37,13 @@ module _ {ℓ} {A : Type ℓ} where
 pub upd-at {ℓ ℓ′} : {A : Type ℓ} (P : ℕ → A → Type ℓ′) (p : ℕ) (v : A) (f : ℕ → A) → P p v → ((q : ℕ) → q ≢ p → P q (f q)) → (q : ℕ) → P q (upd p v f q)
 upd-at P p v f here there q =
     by-same q p (λ e. rw (e, upd-same) here) (λ d. rw (upd-other p v f q d) (there q d))
+
+-- the end that a message comes from is one of the two
+pub end-below : (f : Phase) {n s r : ℕ} → s < n → r < n → fromEnd f s r < n
+end-below resting s r = r
+end-below asking s r = r
+end-below ready s r = s
+end-below (answering x) s r = s
 
 pub record Net : Type 0 where
   pub n : ℕ
@@ -86,16 +93,10 @@ module _ (N : Net) where
 
   -- the node where a message of channel k enters the ring, and the one that takes it, in phase f
   abbrev pub entryIn : Phase → ℕ → ℕ
-  entryIn resting k = receiver k
-  entryIn asking k = receiver k
-  entryIn ready k = sender k
-  entryIn (answering x) k = sender k
+  entryIn f k = fromEnd f (sender k) (receiver k)
 
   abbrev pub targetIn : Phase → ℕ → ℕ
-  targetIn resting k = sender k
-  targetIn asking k = sender k
-  targetIn ready k = receiver k
-  targetIn (answering x) k = receiver k
+  targetIn f k = fromEnd f (receiver k) (sender k)
 
   -- how many times channel k stands in lines and buffers
   abbrev pub here : State → ℕ → ℕ
@@ -116,6 +117,10 @@ module _ (N : Net) where
     pub good-offer : (k : ℕ) → k < c → goodOffer (σ .offer k) ≡ true
     pub good-carried : (k : ℕ) → k < c → goodCarried (σ .phase k) ≡ true
     pub more-slots : c < sum n slots
+
+  -- the nodes where a message enters and that takes it are nodes of the ring, whatever its phase
+  pub ends-below : {σ : State} → Sound σ → (k : ℕ) → k < c → (f : Phase) → (entryIn f k < n) × (targetIn f k < n)
+  ends-below s k l f = let sends = s .sender-below k l in let asks = s .receiver-below k l in (end-below f sends asks, end-below f asks sends)
 
   -- An accepted receive, send, enter or move: the call, its answer and the next state.
   pub data Did (σ : State) : Call → Event → State → Type 0 where
@@ -156,3 +161,10 @@ module _ (N : Net) where
   -- the record matched on channel m
   abbrev pub matchOf : State → ℕ → Option BatchRecord
   matchOf σ m = matchedIn (σ .phase m) (σ .offer m)
+
+-- a channel on which a record is matched has its message on the ring
+pub matched-moving : (f : Phase) (o : Option BatchRecord) (x : BatchRecord) → matchedIn f o ≡ some x → moving f ≡ true
+matched-moving resting o x e = absurd (Option·none-ne-some x e)
+matched-moving asking o x e = refl
+matched-moving ready o x e = absurd (Option·none-ne-some x e)
+matched-moving (answering y) o x e = refl

@@ -1,5 +1,5 @@
--- A ring's lists seen as the theory's tables: `netOf` is what never changes after the start, `stateOf` what a step changes. A store to a
--- list is an update of its tables (`set-table`, `set-alike`), so each change of a ring that a call is made of is one of the theory's
+-- Lists. A ring's lists seen as the theory's tables: `netOf` is what never changes after the start, `stateOf` what a step changes. A store
+-- to a list is an update of its tables (`set-table`, `set-alike`), so each change of a ring that a call is made of is one of the theory's
 -- changes, and leaves `netOf` as it is. Assumes nothing.
 use Prim.Native.Nat.{ℕ, _<_}
 use mathlib.Core.Path.{_≡_, refl, sym, ap, fun-ext, subst, _∙_}
@@ -49,7 +49,7 @@ module _ {ℓ κ} {A : Type ℓ} {B : Type κ} (f : A → B) (xs : List A) (p : 
       (λ same. rw same (ap f (getD-set-same xs p v d l) ∙ sym (upd-same p (f v) (table f d xs))))
       (λ other. ap f (getD-set-other xs p q v d other) ∙ sym (upd-other p (f v) (table f d xs) q other))
 
-  set-alike : p < length xs → f v ≡ f (getD xs p d) → table f d (set xs p v) ≡ table f d xs
+  pub set-alike : p < length xs → f v ≡ f (getD xs p d) → table f d (set xs p v) ≡ table f d xs
   set-alike l e = set-table l ∙ ap (λ b. upd p b (table f d xs)) e ∙ upd-alike p (table f d xs)
 
 same-state : {b b′ l l′ : ℕ → List ℕ} {m m′ : ℕ → Bool} {f f′ : ℕ → Phase} {o o′ : ℕ → Option BatchRecord} →

@@ -1,20 +1,20 @@
--- What a ring weighs, for any weight of its nodes: each message as its node, one more while it stands in a line; an idle channel as the
--- node where its next message enters, and two more; a channel with no offer one more. Each change that steps are made of alters this at
--- one node or one channel. Assumes nothing.
+-- Theory. What a ring weighs, for any weight of its nodes: each message as its node, one more while it stands in a line; an idle channel
+-- as the node where its next message enters, and two more; a channel with no offer one more. Each change that steps are made of alters
+-- this at one node or one channel. Assumes nothing.
 use Prim.Native.Nat.{ℕ, suc, _+_, _*_, _≤_, _<_}
 use mathlib.Core.Path.{_≡_, refl, ap}
 use mathlib.Core.Bool.{Bool, true, false, not}
 use mathlib.Core.List.{List, [], _∷_, _++_}
-use mathlib.Core.Option.{Option, none}
+use mathlib.Core.Option.{Option}
 use native.Mathlib.Omega.{arith}
 use lib.ListN.{length}
 use Rattle.batch.specs.declared.BatchRecord.{BatchRecord}
 use Rattle.network.specs.Counting.{one, sum, count}
 use Rattle.network.specs.Network.{Phase, moving}
 use Rattle.network.specs.Sound.{absent}
-use Rattle.network.proofs.Cases.{by-phase}
 use Rattle.network.proofs.Counting.{sum-same, sum-but, sum-le, sum-add, sum-swap, sum-times, sum-ones, length-counts, length-snoc}
-use Rattle.network.proofs.State.{upd-same, upd-other, Net, State, turn, join, pop, push, pass, entryIn, targetIn, Sound, here}
+use Rattle.network.proofs.Load.{nodes-buffer, nodes-line, nodes-both}
+use Rattle.network.proofs.State.{upd-same, upd-other, Net, State, turn, join, pop, push, pass, entryIn, targetIn, Sound, ends-below, here}
 
 module _ (N : Net) where
   open Net N using (n, c, slots, sender, receiver)
@@ -24,8 +24,11 @@ module _ (N : Net) where
   idle w k f = one (not (moving f)) * (w (entryIn N f k) + 2)
 
   -- what the messages at a node weigh: as the node, and 1 more in the line
+  abbrev atNode : (ℕ → ℕ) → ℕ → List ℕ → List ℕ → ℕ
+  atNode w p xs ys = w p * (length xs + length ys) + length ys
+
   abbrev pub nodeWeight : (ℕ → ℕ) → State → ℕ → ℕ
-  nodeWeight w σ p = w p * (length (σ .buffer p) + length (σ .line p)) + length (σ .line p)
+  nodeWeight w σ p = atNode w p (σ .buffer p) (σ .line p)
 
   -- what a channel weighs in a phase and with an offer: 1 more with none
   abbrev pub weighs : (ℕ → ℕ) → ℕ → Phase → Option BatchRecord → ℕ
@@ -52,47 +55,27 @@ module _ (N : Net) where
 
     pub weight-join : (p k : ℕ) → p < n → weight w (join p k σ) ≡ weight w σ + suc (w p)
     weight-join p k l =
-        let new : nodeWeight w (join p k σ) p ≡ nodeWeight w σ p + suc (w p) =
-        rw (upd-same p (σ .line p ++ (k ∷ [])) (σ .line), length-snoc) (omega arith) in
-        omega (
-          arith,
-          new,
-          sum-but n p (nodeWeight w (join p k σ)) (nodeWeight w σ) l
-              (λ q m d. rw (upd-other p (σ .line p ++ (k ∷ [])) (σ .line) q d) refl),
-        )
+        let longer : length (σ .line p ++ (k ∷ [])) ≡ suc (length (σ .line p)) = length-snoc (σ .line p) k in
+        omega (arith, nodes-line N (atNode w) σ p l (σ .line p ++ (k ∷ [])), ap (λ z. w p * z) longer)
 
     pub weight-pop : (p k : ℕ) (ks : List ℕ) → p < n → σ .buffer p ≡ k ∷ ks → weight w (pop p ks σ) + w p ≡ weight w σ
-    weight-pop p k ks l e =
-        let new : nodeWeight w (pop p ks σ) p + w p ≡ nodeWeight w σ p =
-        rw (upd-same p ks (σ .buffer), e) (omega arith) in
-        omega (
-          arith,
-          new,
-          sum-but n p (nodeWeight w (pop p ks σ)) (nodeWeight w σ) l
-              (λ q m d. rw (upd-other p ks (σ .buffer) q d) refl),
-        )
+    weight-pop p k ks l e = omega (arith, nodes-buffer N (atNode w) σ p l ks, ap (λ xs. w p * length xs) e)
 
     pub weight-push : (p k : ℕ) (ks : List ℕ) → p < n → σ .line p ≡ k ∷ ks → suc (weight w (push p k ks σ)) ≡ weight w σ
     weight-push p k ks l e =
-        let new : suc (nodeWeight w (push p k ks σ) p) ≡ nodeWeight w σ p =
-        rw (upd-same p (σ .buffer p ++ (k ∷ [])) (σ .buffer), upd-same p ks (σ .line), length-snoc, e) (omega arith) in
+        let longer : length (σ .buffer p ++ (k ∷ [])) ≡ suc (length (σ .buffer p)) = length-snoc (σ .buffer p) k in
+        let shorter : length (σ .line p) ≡ suc (length ks) = ap length e in
         omega (
           arith,
-          new,
-          sum-but n p (nodeWeight w (push p k ks σ)) (nodeWeight w σ) l
-              (λ q m d. rw (upd-other p (σ .buffer p ++ (k ∷ [])) (σ .buffer) q d, upd-other p ks (σ .line) q d) refl),
+          nodes-both N (atNode w) σ p l (σ .buffer p ++ (k ∷ [])) ks,
+          ap (λ z. w p * z) longer,
+          ap (λ z. w p * z) shorter,
         )
 
     pub weight-pass : (p k : ℕ) → p < n → weight w (pass p k σ) ≡ weight w σ + w p
     weight-pass p k l =
-        let new : nodeWeight w (pass p k σ) p ≡ nodeWeight w σ p + w p =
-        rw (upd-same p (σ .buffer p ++ (k ∷ [])) (σ .buffer), length-snoc) (omega arith) in
-        omega (
-          arith,
-          new,
-          sum-but n p (nodeWeight w (pass p k σ)) (nodeWeight w σ) l
-              (λ q m d. rw (upd-other p (σ .buffer p ++ (k ∷ [])) (σ .buffer) q d) refl),
-        )
+        let longer : length (σ .buffer p ++ (k ∷ [])) ≡ suc (length (σ .buffer p)) = length-snoc (σ .buffer p) k in
+        omega (arith, nodes-buffer N (atNode w) σ p l (σ .buffer p ++ (k ∷ [])), ap (λ z. w p * z) longer)
 
   -- how many messages are at a node, and whether a channel has none on the ring
 
@@ -141,19 +124,9 @@ module _ (N : Net) where
         sum-times c a (quiet σ),
       )
 
-  -- the nodes where a message enters and that takes it are nodes of the ring
+  -- the ends of a message's way, in the phase that its channel has
   pub entry-below : {σ : State} (k : ℕ) → Sound N σ → k < c → entryIn N (σ .phase k) k < n
-  entry-below {σ} k s l =
-      by-phase (σ .phase k)
-      (λ e. rw e (s .receiver-below k l))
-      (λ e. rw e (s .receiver-below k l))
-      (λ e. rw e (s .sender-below k l))
-      (λ x e. rw e (s .sender-below k l))
+  entry-below {σ} k s l = ends-below N s k l (σ .phase k) .0
 
   pub target-below : {σ : State} (k : ℕ) → Sound N σ → k < c → targetIn N (σ .phase k) k < n
-  target-below {σ} k s l =
-      by-phase (σ .phase k)
-      (λ e. rw e (s .sender-below k l))
-      (λ e. rw e (s .sender-below k l))
-      (λ e. rw e (s .receiver-below k l))
-      (λ x e. rw e (s .receiver-below k l))
+  target-below {σ} k s l = ends-below N s k l (σ .phase k) .1

@@ -13,9 +13,10 @@ use Rattle.batch.specs.declared.BatchRecord.{BatchRecord}
 use Rattle.batch.specs.declared.Verdict.{Verdict}
 use Rattle.batch.specs.declared.Verdict.the-variants.{Good, Refused}
 use Rattle.batch.specs.Good.{verdictOf}
+pub use Rattle.batch.specs.Good.{unless}
 use Rattle.hops.specs.Hops.{hops}
 use Rattle.network.specs.Counting.{one, sum, count, occupied}
-use Rattle.network.specs.Network.{Network, NodeState, ChannelState, Phase, resting, asking, ready, answering, nodeCount, channelCount, slotCount, node, channel, nextNode, target, withNode, withChannel, withNewNode, withNewChannel, withStarted, withDeliveries}
+use Rattle.network.specs.Network.{Network, ChannelState, Phase, resting, asking, ready, answering, nodeCount, channelCount, slotCount, node, channel, nextNode, target, withNode, withChannel, withNewNode, withNewChannel, withStarted, withDeliveries}
 use Rattle.network.specs.Sound.{Limits, oneMore, absent, isResting, isReady}
 
 -- what an accepted call answers: nothing more, a delivery with its channel and record, hops left, or a waiting set
@@ -40,11 +41,6 @@ deliveryIn (waitingAre w) = none
 pub data Outcome (S : Type 0) : Type 0 where
   refused : Refusal → Outcome S
   accepted : Event → S → Outcome S
-
--- go on if the test passes, else refuse
-abbrev pub unless {ℓ} : {A : Type ℓ} → Bool → A → A → A
-unless true r o = o
-unless false r o = r
 
 -- channel k joins the line of node p
 abbrev pub joinLine : ℕ → ℕ → Network → Network

@@ -1,7 +1,7 @@
 -- Sums, counts and tests over the numbers below a bound and over lists: the few words that the other definitions are written in.
 -- Assumes nothing.
 use Prim.Native.Nat.{ℕ, zero, suc, _+_}
-use mathlib.Core.Bool.{Bool, true, false, _&&_, not}
+use mathlib.Core.Bool.{Bool, true, false, _&&_}
 use mathlib.Core.List.{List, [], _∷_, _++_}
 use lib.Dec.{eqb}
 
@@ -33,11 +33,6 @@ weigh f (x ∷ xs) = f x + weigh f xs
 -- how many times k stands in a list
 abbrev pub count : ℕ → List ℕ → ℕ
 count k xs = weigh (λ x. one (eqb x k)) xs
-
--- the test passes at every element of a list
-unfoldable pub allOf : (ℕ → Bool) → List ℕ → Bool
-allOf f [] = true
-allOf f (x ∷ xs) = f x && allOf f xs
 
 -- the list has an element
 abbrev pub occupied : List ℕ → Bool

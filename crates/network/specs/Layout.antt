@@ -6,7 +6,6 @@ use mathlib.Core.List.{List, [], _∷_, _++_, map}
 use mathlib.Core.Option.{Option, none, some}
 use lib.Dec.{eqb}
 use lib.ListN.{length, getD, take, drop, replicate}
-use Rattle.refusal.specs.declared.Refusal.{Refusal}
 use Rattle.refusal.specs.declared.Refusal.the-variants.{UnsoundRing}
 use Rattle.batch.specs.declared.BatchRecord.{BatchRecord}
 use Rattle.wire.specs.Record.{recordLength, recordBytes, recordIn}
@@ -20,6 +19,7 @@ use Rattle.network.specs.Sound.{Limits}
 use Rattle.network.specs.Sound
 use Rattle.network.specs.Calls.{Outcome, refused, accepted, unless}
 use Rattle.network.specs.Runs.{Call, call}
+use Rattle.network.specs.Answers.{stepOf}
 
 -- the limits of this ring
 abbrev pub ringLimits : Limits
@@ -233,60 +233,44 @@ heldOutcome (accepted e σ) = accepted e (hold σ)
 unfoldable pub callRing : Call → Ring → Outcome Ring
 callRing a ring = unless (soundRing ring) (refused UnsoundRing) (heldOutcome (call ringLimits a (view ring)))
 
--- the same head with other numbers of its nodes or its channels: those that a started ring's calls change
-abbrev pub withNodes : Head → List ℕ → List ℕ → List ℕ → Head
-withNodes h used waiting marks =
+-- the ring as a call leaves it, and the reply
+abbrev pub stepRing : Call → Ring → Step
+stepRing a ring = stepOf ring (callRing a ring)
+
+-- the head with these numbers, in the order of its fields
+abbrev pub headOf : ℕ → ℕ → ℕ → ℕ → ℕ → List ℕ → List ℕ → List ℕ → List ℕ → List ℕ → List ℕ → List ℕ → List ℕ → Head
+headOf deliveries started nodes channels spare capacity used waiting marks senders receivers phases offered =
     record {
-      deliveries = h .deliveries;
-      started = h .started;
-      «node_count» = h .«node_count»;
-      «channel_count» = h .«channel_count»;
-      spare = h .spare;
-      capacity = h .capacity;
+      deliveries = deliveries;
+      started = started;
+      «node_count» = nodes;
+      «channel_count» = channels;
+      spare = spare;
+      capacity = capacity;
       used = used;
       waiting = waiting;
       marks = marks;
-      senders = h .senders;
-      receivers = h .receivers;
-      phases = h .phases;
-      offered = h .offered;
-    }
-
-abbrev pub withChannels : Head → List ℕ → List ℕ → Head
-withChannels h phases offered =
-    record {
-      deliveries = h .deliveries;
-      started = h .started;
-      «node_count» = h .«node_count»;
-      «channel_count» = h .«channel_count»;
-      spare = h .spare;
-      capacity = h .capacity;
-      used = h .used;
-      waiting = h .waiting;
-      marks = h .marks;
-      senders = h .senders;
-      receivers = h .receivers;
+      senders = senders;
+      receivers = receivers;
       phases = phases;
       offered = offered;
     }
 
+-- the same head with other numbers of its nodes or its channels: those that a started ring's calls change
+abbrev pub withNodes : Head → List ℕ → List ℕ → List ℕ → Head
+withNodes h used waiting marks =
+    headOf (h .deliveries) (h .started) (h .«node_count») (h .«channel_count») (h .spare) (h .capacity) used waiting marks
+    (h .senders) (h .receivers) (h .phases) (h .offered)
+
+abbrev pub withChannels : Head → List ℕ → List ℕ → Head
+withChannels h phases offered =
+    headOf (h .deliveries) (h .started) (h .«node_count») (h .«channel_count») (h .spare) (h .capacity) (h .used) (h .waiting) (h .marks)
+    (h .senders) (h .receivers) phases offered
+
 abbrev pub withDeliveries : Head → ℕ → Head
 withDeliveries h deliveries =
-    record {
-      deliveries = deliveries;
-      started = h .started;
-      «node_count» = h .«node_count»;
-      «channel_count» = h .«channel_count»;
-      spare = h .spare;
-      capacity = h .capacity;
-      used = h .used;
-      waiting = h .waiting;
-      marks = h .marks;
-      senders = h .senders;
-      receivers = h .receivers;
-      phases = h .phases;
-      offered = h .offered;
-    }
+    headOf deliveries (h .started) (h .«node_count») (h .«channel_count») (h .spare) (h .capacity) (h .used) (h .waiting) (h .marks)
+    (h .senders) (h .receivers) (h .phases) (h .offered)
 
 -- the ring, and the ring with its answer, of a head and of the cells and records that lie apart from it
 abbrev pub ringIn : Head → List ℕ → List ℕ → List ℕ → List ℕ → Ring

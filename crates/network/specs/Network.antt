@@ -1,15 +1,14 @@
 -- The ring of document 01 apart from how it is held in memory: nodes with a buffer and a line, channels with a phase and an offer.
 -- Buffers and lines are lists of channel numbers, first come first. Nothing here knows how many nodes or channels there may be.
 -- Assumes nothing.
-use Prim.Native.Nat.{ℕ, zero, suc, _+_}
-use mathlib.Core.Bool.{Bool, true, false, cond}
+use Prim.Native.Nat.{ℕ, _+_}
+use mathlib.Core.Bool.{Bool, true, false}
 use mathlib.Core.List.{List, [], _∷_, _++_}
-use mathlib.Core.Option.{Option, none, some}
-use lib.Dec.{eqb}
+use mathlib.Core.Option.{Option, none}
 use lib.ListN.{length, getD, set}
 use Rattle.batch.specs.declared.BatchRecord.{BatchRecord}
 use Rattle.hops.specs.Hops.{next}
-use Rattle.network.specs.Counting.{sum, count, occupied}
+use Rattle.network.specs.Counting.{sum, count}
 
 -- Where a channel stands. Resting: nothing under way. Asking (document 01's word): its request is on the ring. Ready: the request
 -- arrived and no record was offered. Answering: its response is on the ring, with the record carried.
@@ -115,19 +114,20 @@ moving asking = true
 moving ready = false
 moving (answering x) = true
 
--- The node at which a channel's message enters the ring, and the node that takes it: a request goes from the receiver to the
--- sender, a response from the sender to the receiver.
+-- A request goes from the receiver to the sender, a response from the sender to the receiver: the end of a channel from which its
+-- message comes. With the ends exchanged it is the one to which the message goes.
+abbrev pub fromEnd : Phase → ℕ → ℕ → ℕ
+fromEnd resting sender receiver = receiver
+fromEnd asking sender receiver = receiver
+fromEnd ready sender receiver = sender
+fromEnd (answering x) sender receiver = sender
+
+-- the node at which a channel's message enters the ring, and the node that takes it
 abbrev pub entryOf : ChannelState → Phase → ℕ
-entryOf s resting = s .receiver
-entryOf s asking = s .receiver
-entryOf s ready = s .sender
-entryOf s (answering x) = s .sender
+entryOf s f = fromEnd f (s .sender) (s .receiver)
 
 abbrev pub targetOf : ChannelState → Phase → ℕ
-targetOf s resting = s .sender
-targetOf s asking = s .sender
-targetOf s ready = s .receiver
-targetOf s (answering x) = s .receiver
+targetOf s f = fromEnd f (s .receiver) (s .sender)
 
 abbrev pub entry : Network → ℕ → ℕ
 entry σ k = entryOf (channel σ k) (channel σ k .phase)

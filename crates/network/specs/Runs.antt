@@ -1,15 +1,15 @@
 -- Document 01, "Runs of calls": lists of calls on anything that answers ring calls, what was offered and delivered on a channel, and
 -- which calls are counted. S is what is called: the ring apart from its layout, or the ring in memory. Assumes nothing.
-use Prim.Native.Nat.{ℕ, zero, suc, _+_, _*_}
+use Prim.Native.Nat.{ℕ, _+_, _*_}
 use mathlib.Core.Bool.{Bool, true, false, cond}
 use mathlib.Core.List.{List, [], _∷_, _++_}
 use mathlib.Core.Option.{Option, none, some}
 use lib.Dec.{eqb}
 use Rattle.batch.specs.declared.BatchRecord.{BatchRecord}
 use Rattle.network.specs.Counting.{one}
-use Rattle.network.specs.Network.{Network, ChannelState, Phase, resting, asking, ready, answering, nodeCount, channelCount, slotCount, channel}
+use Rattle.network.specs.Network.{Network, Phase, resting, asking, ready, answering, nodeCount, channelCount, slotCount, channel}
 use Rattle.network.specs.Sound.{Limits}
-use Rattle.network.specs.Calls.{Event, done, delivered, hopsAre, waitingAre, Outcome, refused, accepted}
+use Rattle.network.specs.Calls.{Event, Delivery, deliveryIn, Outcome, refused, accepted}
 use Rattle.network.specs.Calls
 
 -- the ring calls, with any arguments
@@ -47,24 +47,29 @@ counts (move p) = true
 counts (hopsLeft k) = false
 counts (waitingSet p) = false
 
+-- record x of channel j, as channel k sees it
+abbrev pub onChannel : ℕ → ℕ → BatchRecord → List BatchRecord
+onChannel k j x = cond (eqb j k) (x ∷ []) []
+
 -- a call's record, if it is a send on channel k
 abbrev pub sentOn : ℕ → Call → List BatchRecord
 sentOn k (addNode slots) = []
 sentOn k (addChannel s r) = []
 sentOn k start = []
 sentOn k (receive j) = []
-sentOn k (send j x) = cond (eqb j k) (x ∷ []) []
+sentOn k (send j x) = onChannel k j x
 sentOn k (enter p) = []
 sentOn k (move p) = []
 sentOn k (hopsLeft j) = []
 sentOn k (waitingSet p) = []
 
 -- the record in an answer that holds channel k
+abbrev pub recordOn : ℕ → Option Delivery → List BatchRecord
+recordOn k none = []
+recordOn k (some d) = onChannel k (d .channel) (d .«record»)
+
 abbrev pub handedOn : ℕ → Event → List BatchRecord
-handedOn k done = []
-handedOn k (delivered j x) = cond (eqb j k) (x ∷ []) []
-handedOn k (hopsAre h) = []
-handedOn k (waitingAre w) = []
+handedOn k e = recordOn k (deliveryIn e)
 
 module _ {S : Type 0} where
   -- a refusal changes nothing

@@ -1,15 +1,14 @@
 -- Document 01, "A sound ring", clause by clause, as one test that can be run. Assumes nothing.
-use Prim.Native.Nat.{ℕ, zero, suc, _+_, min}
+use Prim.Native.Nat.{ℕ, _+_, min}
 use mathlib.Core.Bool.{Bool, true, false, cond, _&&_, _||_, not}
-use mathlib.Core.List.{List, [], _∷_}
 use mathlib.Core.Option.{Option, none, some}
 use lib.Dec.{leb, ltb, eqb}
 use lib.ListN.{length}
 use Rattle.batch.specs.declared.BatchRecord.{BatchRecord}
-use Rattle.batch.specs.Good.{goodRecord}
+use Rattle.batch.specs.Good.{every, goodRecord}
 use Rattle.hops.specs.Hops.{hops}
-use Rattle.network.specs.Counting.{one, sum, allBelow, allOf, count, occupied}
-use Rattle.network.specs.Network.{Network, NodeState, ChannelState, Phase, resting, asking, ready, answering, nodeCount, channelCount, slotCount, node, channel, moving, entry, target, timesOn}
+use Rattle.network.specs.Counting.{one, allBelow, occupied}
+use Rattle.network.specs.Network.{Network, Phase, resting, asking, ready, answering, nodeCount, channelCount, slotCount, node, channel, moving, entry, target, timesOn}
 
 -- what a size of ring allows: so many nodes, so many channels, so many slots a node
 pub record Limits : Type 0 where
@@ -57,7 +56,7 @@ abbrev pub lineFits : Network → ℕ → ℕ → Bool
 lineFits σ p k = ltb k (channelCount σ) && eqb p (entry σ k)
 
 -- Channel k may stand in the buffer of node p: from its node of entry up to the node before its target in ring order, that is, no
--- further from the target than the entry is. For a same-node channel that is any node.
+-- further from the target than the entry is (Way has the nodes one by one). For a same-node channel that is any node.
 abbrev pub bufferFits : Network → ℕ → ℕ → Bool
 bufferFits σ p k =
     ltb k (channelCount σ)
@@ -70,8 +69,8 @@ soundNode L σ p =
     leb 1 (node σ p .slots)
     && leb (node σ p .slots) (L .slots)
     && leb (length (node σ p .buffer)) (node σ p .slots)
-    && allOf (bufferFits σ p) (node σ p .buffer)
-    && allOf (lineFits σ p) (node σ p .line)
+    && every (bufferFits σ p) (node σ p .buffer)
+    && every (lineFits σ p) (node σ p .line)
     && (not (node σ p .mark) || occupied (node σ p .line))
 
 -- a channel of the ring: its ends are nodes; asking or answering exactly once on the ring, otherwise nowhere; a ready channel has no
