@@ -26,3 +26,4 @@ pub mod Edges
 pub mod Machine
 pub mod Run
 pub mod Demand
+pub mod Promise
