@@ -234,11 +234,11 @@ module _ (L : Limits) where
   unfolding checkedCall
   question-leaves σ a e = left-unless σ (sound L σ) _ _ e
 
-  pub hops-left-leaves : (k : ℕ) (σ : Network) → after σ (call L (hopsLeft k) σ) ≡ σ
+  hops-left-leaves : (k : ℕ) (σ : Network) → after σ (call L (hopsLeft k) σ) ≡ σ
   unfolding Calls.hopsLeft
   hops-left-leaves k σ = left-unless σ (σ .started) _ _ (left-unless σ (ltb k (channelCount σ)) _ _ refl)
 
-  pub waiting-set-leaves : (p : ℕ) (σ : Network) → after σ (call L (waitingSet p) σ) ≡ σ
+  waiting-set-leaves : (p : ℕ) (σ : Network) → after σ (call L (waitingSet p) σ) ≡ σ
   unfolding Calls.waitingSet
   waiting-set-leaves p σ = left-unless σ (ltb p (nodeCount σ)) _ _ refl
 

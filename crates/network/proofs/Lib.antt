@@ -22,8 +22,9 @@ pub mod Bridge
 pub mod Stall
 pub mod Order
 pub mod Answers
-pub mod Edges
 pub mod Machine
 pub mod Run
 pub mod Demand
 pub mod Promise
+pub mod Edges
+pub mod Dummies

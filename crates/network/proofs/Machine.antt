@@ -14,8 +14,8 @@ use Rattle.network.specs.Sound.{Limits}
 use Rattle.network.specs.Sound
 use Rattle.network.specs.Calls.{Outcome, refused, accepted}
 use Rattle.network.specs.Runs.{Call, enter, move, call, after, isAccepted, countedBy, offeredBy, deliveredBy, run, counted, offeredOn, deliveredOn, matched, bound}
-use Rattle.network.specs.Answers.{saidIn, answers}
-use Rattle.network.specs.Demand.{says25, InTime, UnderWay, Served, InOrder, TurnedDown, AsDefined, Demand3}
+use Rattle.network.specs.Answers.{saidIn, says, answers}
+use Rattle.network.specs.Demand.{InTime, UnderWay, Served, InOrder, TurnedDown, AsDefined, Demand3}
 
 abbrev pub seenBy : {S : Type 0} → (S → Network) → Outcome S → Outcome Network
 seenBy seen (refused r) = refused r
@@ -61,18 +61,18 @@ module _ (L : Limits) {S : Type 0} (fresh : S) (sound : S → Bool) (seen : S �
   seen-next : (a : Call) (s : S) → sound s ≡ true → seen (after s (step a s)) ≡ after (seen s) (call L a (seen s))
   seen-next a s h = seen-after seen s (step a s) ∙ ap (after (seen s)) (step-seen a s h)
 
-  pub run-sound : (calls : List Call) (s : S) → sound s ≡ true → sound (run step calls s) ≡ true
+  run-sound : (calls : List Call) (s : S) → sound s ≡ true → sound (run step calls s) ≡ true
   run-sound [] s h = h
   run-sound (a ∷ calls) s h = run-sound calls (after s (step a s)) (step-sound a s h)
 
-  pub run-seen : (calls : List Call) (s : S) → sound s ≡ true → seen (run step calls s) ≡ run (call L) calls (seen s)
+  run-seen : (calls : List Call) (s : S) → sound s ≡ true → seen (run step calls s) ≡ run (call L) calls (seen s)
   run-seen [] s h = refl
   run-seen (a ∷ calls) s h = run-seen calls (after s (step a s)) (step-sound a s h) ∙ ap (run (call L) calls) (seen-next a s h)
 
-  pub said-seen : (a : Call) (s : S) → sound s ≡ true → saidIn (step a s) ≡ saidIn (call L a (seen s))
+  said-seen : (a : Call) (s : S) → sound s ≡ true → saidIn (step a s) ≡ saidIn (call L a (seen s))
   said-seen a s h = seen-said seen (step a s) ∙ ap saidIn (step-seen a s h)
 
-  pub answers-seen : (calls : List Call) (s : S) → sound s ≡ true → answers step calls s ≡ answers (call L) calls (seen s)
+  answers-seen : (calls : List Call) (s : S) → sound s ≡ true → answers step calls s ≡ answers (call L) calls (seen s)
   answers-seen [] s h = refl
   answers-seen (a ∷ calls) s h =
       rw (said-seen a s h, answers-seen calls (after s (step a s)) (step-sound a s h), seen-next a s h)
@@ -82,7 +82,7 @@ module _ (L : Limits) {S : Type 0} (fresh : S) (sound : S → Bool) (seen : S �
       record { same-answers = answers-seen calls s h; same-ring = run-seen calls s h; still-sound = run-sound calls s h }
 
   -- an unsound ring is refused and stays, so the next call finds it unsound too
-  answers-25 : (calls : List Call) (s : S) → sound s ≡ false → answers step calls s ≡ map (λ a. says25) calls
+  answers-25 : (calls : List Call) (s : S) → sound s ≡ false → answers step calls s ≡ map (λ a. says 25) calls
   answers-25 [] s h = refl
   answers-25 (a ∷ calls) s h = rw (step-unsound a s h, answers-25 calls s h)
 

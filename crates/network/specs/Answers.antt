@@ -125,6 +125,13 @@ pub record Said : Type 0 where
 abbrev pub saidIn : {S : Type 0} → Outcome S → Said
 saidIn o = record { number = outcomeNumber o; values = outcomeValues o }
 
+-- a number and no values, or a delivery
+abbrev pub says : ℕ → Said
+says n = record { number = n; values = done }
+
+abbrev pub delivers : ℕ → BatchRecord → Said
+delivers k x = record { number = 0; values = delivered k x }
+
 -- what a run answers, call by call
 abbrev pub answers : {S : Type 0} → (Call → S → Outcome S) → List Call → S → List Said
 answers step [] s = []

@@ -12,17 +12,13 @@ use Rattle.refusal.specs.declared.Refusal.the-variants.{UnsoundRing}
 use Rattle.network.specs.Network.{Network}
 use Rattle.network.specs.Sound.{Limits}
 use Rattle.network.specs.Sound
-use Rattle.network.specs.Calls.{done, Outcome, refused, unless}
+use Rattle.network.specs.Calls.{Outcome, refused, unless}
 use Rattle.network.specs.Runs.{Call, enter, move, hopsLeft, waitingSet, call, after, isAccepted, run, counted, offeredOn, deliveredOn, matched, bound}
-use Rattle.network.specs.Answers.{Said, answers}
+use Rattle.network.specs.Answers.{says, answers}
 
 -- the calls of the definitions, with the test for 25 before all others
 unfoldable pub checkedCall : Limits → Call → Network → Outcome Network
 checkedCall L a σ = unless (Sound.sound L σ) (refused UnsoundRing) (call L a σ)
-
--- document 01's number for an unsound ring; a refusal answers its number alone
-abbrev pub says25 : Said
-says25 = record { number = 25; values = done }
 
 -- S: what is called. fresh: a fresh one. sound: the test for 25. seen: the ring that it holds. step: one call.
 module _ {S : Type 0} (fresh : S) (sound : S → Bool) (seen : S → Network) (step : Call → S → Outcome S) where
@@ -31,11 +27,17 @@ module _ {S : Type 0} (fresh : S) (sound : S → Bool) (seen : S → Network) (s
   RefusesUnsound = (a : Call) (s : S) → sound s ≡ false → step a s ≡ refused UnsoundRing
 
   -- Each call by itself: a fresh ring is sound, every call keeps a sound ring sound, a question leaves the ring.
+  abbrev pub KeepsSound : Type 0
+  KeepsSound = (a : Call) (s : S) → sound s ≡ true → sound (after s (step a s)) ≡ true
+
+  abbrev pub Leaves : Call → Type 0
+  Leaves a = (s : S) → after s (step a s) ≡ s
+
   pub record Safe : Type 0 where
     pub fresh-sound : sound fresh ≡ true
-    pub sound-kept : (a : Call) (s : S) → sound s ≡ true → sound (after s (step a s)) ≡ true
-    pub hops-left-leaves : (k : ℕ) (s : S) → after s (step (hopsLeft k) s) ≡ s
-    pub waiting-set-leaves : (p : ℕ) (s : S) → after s (step (waitingSet p) s) ≡ s
+    pub sound-kept : KeepsSound
+    pub hops-left-leaves : (k : ℕ) → Leaves (hopsLeft k)
+    pub waiting-set-leaves : (p : ℕ) → Leaves (waitingSet p)
 
   -- Record x is delivered on channel m, before any other on it: the calls up to some place hand out x alone on m, and no more than
   -- the bound of them are counted, the delivering move among them.
@@ -66,8 +68,11 @@ module _ {S : Type 0} (fresh : S) (sound : S → Bool) (seen : S → Network) (s
 
   -- From an unsound ring, each call of a run answers 25, and the ring stays.
   pub record TurnedDown (s : S) (calls : List Call) : Type 0 where
-    pub all-25 : answers step calls s ≡ map (λ a. says25) calls
+    pub all-25 : answers step calls s ≡ map (λ a. says 25) calls
     pub ring-stays : run step calls s ≡ s
+
+  abbrev pub Unsound : Type 0
+  Unsound = (s : S) (calls : List Call) → sound s ≡ false → TurnedDown s calls
 
   -- L: how many nodes, channels and slots are allowed.
   module _ (L : Limits) where
@@ -78,9 +83,12 @@ module _ {S : Type 0} (fresh : S) (sound : S → Bool) (seen : S → Network) (s
       pub same-ring : seen (run step calls s) ≡ run (call L) calls (seen s)
       pub still-sound : sound (run step calls s) ≡ true
 
+    abbrev pub Each : Type 0
+    Each = (s : S) (calls : List Call) → sound s ≡ true → AsDefined s calls
+
     -- Demand 3, all of it, for every list of calls.
     pub record Demand3 : Type 0 where
-      pub each : (s : S) (calls : List Call) → sound s ≡ true → AsDefined s calls
-      pub unsound : (s : S) (calls : List Call) → sound s ≡ false → TurnedDown s calls
+      pub each : Each
+      pub unsound : Unsound
       pub served : Served
       pub in-order : InOrder

@@ -10,3 +10,4 @@ pub mod Layout
 pub mod Answers
 pub mod Promise
 pub mod Edges
+pub mod Dummies

@@ -23,16 +23,22 @@ module _ (code : Call → Ring → Step) where
   abbrev pub returned : Call → Ring → Outcome Ring
   returned a ring = outcomeOf (code a ring)
 
-  -- a refusal answers its number alone and changes nothing
+  -- A refusal answers its number alone and changes nothing: where the number is not 0, the ring that is returned is the ring that was
+  -- given, and the record beside the answer is blank.
   pub record ChangesNothing (a : Call) (ring : Ring) : Type 0 where
     pub ring-as-before : code a ring .ring ≡ ring
     pub record-blank : code a ring .reply .delivered ≡ noRecord
 
+  abbrev pub RefusalLeaves : Type 0
+  RefusalLeaves = (a : Call) (ring : Ring) → numberIn (code a ring .reply .answer) ≢ 0 → ChangesNothing a ring
+
+  -- So in a run each call gets the ring that the code returned for the one before, accepted or refused.
+  abbrev pub NextRing : Type 0
+  NextRing = (a : Call) (ring : Ring) → after ring (returned a ring) ≡ code a ring .ring
+
   pub record Promised : Type 0 where
-    -- demand 1: 25 before all others, and where the number is not 0 nothing is changed
     pub refuses-unsound : RefusesUnsound freshRing soundRing view returned
-    pub refusal-leaves : (a : Call) (ring : Ring) → numberIn (code a ring .reply .answer) ≢ 0 → ChangesNothing a ring
-    -- in a run each call gets the ring that the code returned before
-    pub next-ring : (a : Call) (ring : Ring) → after ring (returned a ring) ≡ code a ring .ring
+    pub refusal-leaves : RefusalLeaves
+    pub next-ring : NextRing
     pub safe : Safe freshRing soundRing view returned
     pub demand3 : Demand3 freshRing soundRing view returned ringLimits
