@@ -85,7 +85,7 @@ demand2-rejects =
       invents-delivery = exposed invents (move 1) firstLap refl (other-values (λ e. omega (arith, e)));
       moves-nothing = exposed movesNothing (move 1) firstLap refl (other-values (λ e. omega (arith, e)));
       turns-down = λ r. exposed (turnsDown r) (enter 0) inLine refl (other-number (λ e. omega (arith, e, in-range r .0)));
-      always-says = λ e. exposed (alwaysSays e) start begun refl (other-number (λ n. omega (arith, n)));
+      always-says = λ e next. exposed (alwaysSays e next) start begun refl (other-number (λ n. omega (arith, n)));
     }
 
 -- demand 3: a run that delivers nothing on m, and after which the record cannot count as under way, refutes `Served`
@@ -121,8 +121,8 @@ module _ (way : Way) (m : ℕ) where
   past-bound : (x : BatchRecord) (σ : Network) (calls : List Call) → Starts x σ calls → bound σ ≤ counted way calls σ → ServedBy way → ⊥
   past-bound x σ calls s many = unserved x σ calls s (λ u. omega (arith, u .fewer, many))
 
-not-offered : (k : ℕ) (x : BatchRecord) → InOrderBy (alwaysSays (delivered k x)) → ⊥
-not-offered k x in-order =
+not-offered : (k : ℕ) (x : BatchRecord) (next : Call → Network → Network) → InOrderBy (alwaysSays (delivered k x) next) → ⊥
+not-offered k x next in-order =
     let r = in-order k (start ∷ []) in
     nil≢cons (rw (eq-eqb k k refl) at (r .1))
 
@@ -142,17 +142,18 @@ demand3-rejects =
     }
   where
     -- whatever is said, if it is no delivery
-    no-delivery : (e : Event) → deliveredOn (alwaysSays e) 0 (pastTheBound (enter 0)) inLine ≡ [] → ServedBy (alwaysSays e) → ⊥
-    no-delivery e none =
-        past-bound (alwaysSays e) 0 workedRecord inLine (pastTheBound (enter 0))
+    no-delivery : (e : Event) (next : Call → Network → Network) →
+        deliveredOn (alwaysSays e next) 0 (pastTheBound (enter 0)) inLine ≡ [] → ServedBy (alwaysSays e next) → ⊥
+    no-delivery e next none =
+        past-bound (alwaysSays e next) 0 workedRecord inLine (pastTheBound (enter 0))
         (record { ok = refl; on = refl; match = refl; none = none })
         (lit≤ tt)
 
-    same-always : (e : Event) → ServedBy (alwaysSays e) → InOrderBy (alwaysSays e) → ⊥
-    same-always done served in-order = no-delivery done refl served
-    same-always (delivered k x) served in-order = not-offered k x in-order
-    same-always (hopsAre h) served in-order = no-delivery (hopsAre h) refl served
-    same-always (waitingAre w) served in-order = no-delivery (waitingAre w) refl served
+    same-always : (e : Event) (next : Call → Network → Network) → ServedBy (alwaysSays e next) → InOrderBy (alwaysSays e next) → ⊥
+    same-always done next served in-order = no-delivery done next refl served
+    same-always (delivered k x) next served in-order = not-offered k x next in-order
+    same-always (hopsAre h) next served in-order = no-delivery (hopsAre h) next refl served
+    same-always (waitingAre w) next served in-order = no-delivery (waitingAre w) next refl served
 
 pub each-can-fail : EachCanFail
 unfolding number-of broken begun inLine sound soundNode soundChannel soundBefore soundAfter sum weigh allOf allBelow hops verdictOf goodRecord batchGood tempGood nameLengthGood nameGood widthsGood nameCellsGood holder hopsOf hold holdHead Calls.addNode Calls.addChannel Calls.start Calls.receive Calls.send Calls.hopsLeft
@@ -167,7 +168,7 @@ each-can-fail =
           let e : _≡_ {A = ℕ} 6 5 = ap (λ l. number-of (getD l 0 (says 0) .values)) (h inLine (hopsLeft 0 ∷ []) refl .same-answers) in omega arith;
       unsound = λ h. let e : _≡_ {A = ℕ} 1 25 = ap (λ l. getD l 0 (says 0) .number) (h broken (start ∷ []) refl .all-25) in omega arith;
       served = demand3-rejects .moves-nothing;
-      in-order = not-offered 0 workedRecord;
+      in-order = not-offered 0 workedRecord (λ a σ. σ);
       refusal-leaves = λ h.
           let e : _≡_ {A = ℕ} 0 1 = ap (λ r. r .head .started) (h start (hold broken) (λ n. omega (arith, n)) .ring-as-before) in omega arith;
       next-ring = λ h. let e : _≡_ {A = ℕ} 1 0 = ap (λ r. r .head .started) (h start (hold broken)) in omega arith;

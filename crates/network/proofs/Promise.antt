@@ -11,7 +11,7 @@ use Rattle.network.specs.Runs.{Call, after}
 use Rattle.network.specs.Layout.{ringLimits, view, freshRing, soundRing, callRing}
 use Rattle.network.specs.Answers.{numberIn, stepOf, outcomeOf}
 use Rattle.network.specs.Demand.{RefusesUnsound, Safe, Demand3}
-use Rattle.network.specs.Promise.{MeetsContracts, returned, ChangesNothing, Promised}
+use Rattle.network.specs.Promise.{MeetsContracts, returned, ChangesNothing, Promised, ContractsSuffice}
 use Rattle.network.proofs.Answers.{steps-keep}
 use Rattle.network.proofs.Demand.{ring-refuses-unsound, ring-safe, ring-demand3}
 
@@ -36,7 +36,7 @@ module _ (code : Call → Ring → Step) (meets : MeetsContracts code) where
         record-blank = ap (λ s. s .reply .delivered) (meets a ring) ∙ kept .1;
       }
 
-  pub promised : Promised code
+  promised : Promised code
   promised =
       record {
         refuses-unsound = subst (RefusesUnsound freshRing soundRing view) (sym returned-is) ring-refuses-unsound;
@@ -45,3 +45,6 @@ module _ (code : Call → Ring → Step) (meets : MeetsContracts code) where
         safe = subst (Safe freshRing soundRing view) (sym returned-is) ring-safe;
         demand3 = subst (λ step. Demand3 freshRing soundRing view step ringLimits) (sym returned-is) ring-demand3;
       }
+
+pub contracts-suffice : ContractsSuffice
+contracts-suffice = promised

@@ -15,7 +15,7 @@ use Rattle.network.specs.declared.Step.{Step}
 use Rattle.network.specs.Network.{Network, ringOf, fresh, nextNode}
 use Rattle.network.specs.Sound.{sound}
 use Rattle.network.specs.Calls.{Event, done, delivered, hopsAre, waitingAre, Outcome, refused, accepted, unless, hasSlot}
-use Rattle.network.specs.Runs.{Call, addNode, addChannel, start, receive, send, enter, move, hopsLeft, waitingSet, call, after, run}
+use Rattle.network.specs.Runs.{Call, addNode, addChannel, start, receive, send, enter, move, hopsLeft, waitingSet, call, run}
 use Rattle.network.specs.Layout.{ringLimits, view, freshRing, soundRing, heldOutcome}
 use Rattle.network.specs.Answers.{saidIn, replyOf, stepOf}
 use Rattle.network.specs.Demand.{RefusesUnsound, KeepsSound, Leaves, Served, InOrder, Each, Unsound}
@@ -90,8 +90,8 @@ movesNothing a σ = byTraffic a (λ p. truly a σ) (λ p. notDone σ (truly a σ
 abbrev pub turnsDown : Refusal → Way
 turnsDown r a σ = refused r
 
-abbrev pub alwaysSays : Event → Way
-alwaysSays e a σ = accepted e (after σ (truly a σ))
+abbrev pub alwaysSays : Event → (Call → Network → Network) → Way
+alwaysSays e next a σ = accepted e (next a σ)
 
 -- The rings on which they are tried: two nodes of one slot each and a same-node channel at node 0, so that n = 2, b = 2, c = 1 and the
 -- bound of demand 3 is 84. The request waits in the line; it is in the buffer of node 0; the response is in the buffer of node 1, one move
@@ -139,7 +139,7 @@ pub record Demand2Rejects : Type 0 where
   pub invents-delivery : Exposed invents (move 1) firstLap
   pub moves-nothing : Exposed movesNothing (move 1) firstLap
   pub turns-down : (r : Refusal) → Exposed (turnsDown r) (enter 0) inLine
-  pub always-says : (e : Event) → Exposed (alwaysSays e) start begun
+  pub always-says : (e : Event) (next : Call → Network → Network) → Exposed (alwaysSays e next) start begun
 
 -- The bound and the order in demand 3 alone reject it.
 abbrev pub ServedBy : Way → Type 0
@@ -148,13 +148,8 @@ ServedBy way = Served fresh (sound ringLimits) (λ σ. σ) way
 abbrev pub InOrderBy : Way → Type 0
 InOrderBy way = InOrder fresh (sound ringLimits) (λ σ. σ) way
 
-pub record Demand3Rejects : Type 0 where
-  pub acts-later-laps : ServedBy actsLaterLaps → ⊥
-  pub moves-nothing : ServedBy movesNothing → ⊥
-  pub turns-down : (r : Refusal) → ServedBy (turnsDown r) → ⊥
-  pub always-says : (e : Event) → ServedBy (alwaysSays e) → InOrderBy (alwaysSays e) → ⊥
-
--- the runs: a lap whose end is acted and more laps, past the bound; and one call so many times
+-- The runs that show it: the end of a lap and eleven laps more, 89 calls; one call 84 times; for a ring that turns every call down the
+-- empty run, and for a ring that always delivers one call from a fresh ring.
 abbrev pub times : ℕ → List Call → List Call
 times zero calls = []
 times (suc n) calls = calls ++ times n calls
@@ -164,6 +159,12 @@ elevenLaps = move 1 ∷ times 11 (lap ++ (move 1 ∷ []))
 
 abbrev pub pastTheBound : Call → List Call
 pastTheBound a = replicate 84 a
+
+pub record Demand3Rejects : Type 0 where
+  pub acts-later-laps : ServedBy actsLaterLaps → ⊥
+  pub moves-nothing : ServedBy movesNothing → ⊥
+  pub turns-down : (r : Refusal) → ServedBy (turnsDown r) → ⊥
+  pub always-says : (e : Event) (next : Call → Network → Network) → ServedBy (alwaysSays e next) → InOrderBy (alwaysSays e next) → ⊥
 
 -- Each part of what is promised can fail, beside the dummies: the definitions without the test for 25, a way that breaks the ring at every
 -- call, and code that says 25 and hands a fresh ring back.
@@ -182,6 +183,6 @@ pub record EachCanFail : Type 0 where
   pub each : Each fresh (sound ringLimits) (λ σ. σ) invents ringLimits → ⊥
   pub unsound : Unsound fresh (sound ringLimits) (λ σ. σ) truly → ⊥
   pub served : ServedBy movesNothing → ⊥
-  pub in-order : InOrderBy (alwaysSays (delivered 0 workedRecord)) → ⊥
+  pub in-order : InOrderBy (alwaysSays (delivered 0 workedRecord) (λ a σ. σ)) → ⊥
   pub refusal-leaves : RefusalLeaves forgets → ⊥
   pub next-ring : NextRing forgets → ⊥

@@ -42,3 +42,7 @@ module _ (code : Call → Ring → Step) where
     pub next-ring : NextRing
     pub safe : Safe freshRing soundRing view returned
     pub demand3 : Demand3 freshRing soundRing view returned ringLimits
+
+-- demand 2 brings the others: code that meets the contracts keeps all that is promised
+abbrev pub ContractsSuffice : Type 0
+ContractsSuffice = (code : Call → Ring → Step) → MeetsContracts code → Promised code
