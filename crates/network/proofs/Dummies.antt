@@ -29,7 +29,7 @@ use Rattle.network.specs.Answers.{Said, saidIn, says, outcomeNumber, out
 use Rattle.network.specs.Demand.{UnderWay, Served}
 use Rattle.network.specs.Promise.{MeetsContracts}
 use Rattle.network.specs.Edges.{workedRecord}
-use Rattle.network.specs.Dummies.{Way, truly, actsLaterLaps, grudgesSlots, invents, movesNothing, turnsDown, alwaysSays, begun, inLine, inBuffer, firstLap, secondLap, broken, checkedRing, asCode, Exposed, Demand2Rejects, ServedBy, InOrderBy, Demand3Rejects, elevenLaps, pastTheBound, EachCanFail}
+use Rattle.network.specs.Dummies.{Way, truly, actsLaterLaps, grudgesSlots, invents, movesNothing, turnsDown, alwaysSays, begun, inLine, inBuffer, firstLap, secondLap, broken, checkedRing, asCode, Exposed, Demand2Rejects, ServedBy, InOrderBy, Demand3Rejects, elevenLaps, pastTheBound, EachCanFail, SevenCounted}
 use Rattle.network.proofs.Clauses.{facts}
 use Rattle.network.proofs.Memory.{view-hold, sound-fits, sound-hold}
 use Rattle.network.proofs.Answers.{steps-keep}
@@ -173,3 +173,7 @@ each-can-fail =
           let e : _≡_ {A = ℕ} 0 1 = ap (λ r. r .head .started) (h start (hold broken) (λ n. omega (arith, n)) .ring-as-before) in omega arith;
       next-ring = λ h. let e : _≡_ {A = ℕ} 1 0 = ap (λ r. r .head .started) (h start (hold broken)) in omega arith;
     }
+
+pub seven-counted : SevenCounted
+unfolding begun inLine sum hops next oneMore verdictOf goodRecord batchGood tempGood nameLengthGood nameGood widthsGood nameCellsGood arrival Calls.addNode Calls.addChannel Calls.start Calls.receive Calls.send Calls.enter Calls.move
+seven-counted = record { six = refl; seven = refl; none-before = refl; delivered-then = refl }

@@ -1,21 +1,21 @@
 -- The five dummies of document 01, "Conditions of acceptance", as ways to answer ring calls, each made of the true calls in a line or two;
 -- and the claims that demand 2 rejects all five, that the bound and the order in demand 3 alone reject the first, the fourth and the
 -- fifth, and that each part of what is promised can fail. Assumes nothing.
-use Prim.Native.Nat.{ℕ, zero, suc}
+use Prim.Native.Nat.{ℕ, zero, suc, _+_}
 use mathlib.Core.Path.{_≡_}
 use mathlib.Core.Logic.{_≢_}
 use mathlib.Core.Bool.{Bool, true, false, cond}
 use mathlib.Core.List.{List, [], _∷_, _++_}
 use lib.Dec.{eqb}
-use lib.ListN.{replicate}
+use lib.ListN.{take, replicate}
 use Rattle.refusal.specs.declared.Refusal.{Refusal}
 use Rattle.refusal.specs.declared.Refusal.the-variants.{NoFreeSlot, NextBufferFull, UnsoundRing}
 use Rattle.network.specs.declared.Ring.{Ring}
 use Rattle.network.specs.declared.Step.{Step}
-use Rattle.network.specs.Network.{Network, ringOf, fresh, nextNode}
+use Rattle.network.specs.Network.{Network, ringOf, fresh, nodeCount, nextNode}
 use Rattle.network.specs.Sound.{sound}
 use Rattle.network.specs.Calls.{Event, done, delivered, hopsAre, waitingAre, Outcome, refused, accepted, unless, hasSlot}
-use Rattle.network.specs.Runs.{Call, addNode, addChannel, start, receive, send, enter, move, hopsLeft, waitingSet, call, run}
+use Rattle.network.specs.Runs.{Call, addNode, addChannel, start, receive, send, enter, move, hopsLeft, waitingSet, call, run, counted, deliveredOn}
 use Rattle.network.specs.Layout.{ringLimits, view, freshRing, soundRing, heldOutcome}
 use Rattle.network.specs.Answers.{saidIn, replyOf, stepOf}
 use Rattle.network.specs.Demand.{RefusesUnsound, KeepsSound, Leaves, Served, InOrder, Each, Unsound}
@@ -186,3 +186,13 @@ pub record EachCanFail : Type 0 where
   pub in-order : InOrderBy (alwaysSays (delivered 0 workedRecord) (λ a σ. σ)) → ⊥
   pub refusal-leaves : RefusalLeaves forgets → ⊥
   pub next-ring : NextRing forgets → ⊥
+
+-- A bound of n + 4 alone would be wrong: it is 6 on this ring, and in this run the seventh counted call delivers.
+abbrev pub slowCalls : List Call
+slowCalls = enter 0 ∷ move 0 ∷ move 1 ∷ send 0 workedRecord ∷ enter 0 ∷ move 0 ∷ move 1 ∷ []
+
+pub record SevenCounted : Type 0 where
+  pub six : nodeCount inLine + 4 ≡ 6
+  pub seven : counted truly slowCalls inLine ≡ 7
+  pub none-before : deliveredOn truly 0 (take 6 slowCalls) inLine ≡ []
+  pub delivered-then : deliveredOn truly 0 slowCalls inLine ≡ workedRecord ∷ []
