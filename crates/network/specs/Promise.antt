@@ -14,8 +14,9 @@ use Rattle.network.specs.Answers.{numberIn, stepOf, outcomeOf}
 use Rattle.network.specs.Demand.{RefusesUnsound, Safe, Demand3}
 
 module _ (code : Call → Ring → Step) where
-  -- Demand 2: for every call and every ring, the answer and the next ring of the definitions. Each of the nine contracts says this of
-  -- its call.
+  -- Demand 2: for every call and every ring, the answer and the next ring of the definitions. This is the contract of each of the seven
+  -- calls that can change a ring; of a question it is the answer, beside the ring that was asked and a blank record. (The operands in code
+  -- are bytes, which are among the numbers here.)
   abbrev pub MeetsContracts : Type 0
   MeetsContracts = (a : Call) (ring : Ring) → code a ring ≡ stepOf ring (callRing a ring)
 
