@@ -17,7 +17,7 @@ use Rattle.network.specs.Sound.{sound}
 use Rattle.network.specs.Calls.{Event, done, delivered, hopsAre, waitingAre, Outcome, refused, accepted, unless, hasSlot}
 use Rattle.network.specs.Runs.{Call, addNode, addChannel, start, receive, send, enter, move, hopsLeft, waitingSet, call, run, counted, deliveredOn}
 use Rattle.network.specs.Layout.{ringLimits, view, freshRing, soundRing, heldOutcome}
-use Rattle.network.specs.Answers.{saidIn, replyOf, stepOf}
+use Rattle.network.specs.Answers.{saidIn, says, replyOf, stepOf}
 use Rattle.network.specs.Demand.{RefusesUnsound, KeepsSound, Leaves, Served, InOrder, Each, Unsound}
 use Rattle.network.specs.Promise.{MeetsContracts, RefusalLeaves, NextRing}
 use Rattle.network.specs.Edges.{workedRecord}
@@ -135,6 +135,8 @@ pub record Demand2Rejects : Type 0 where
   pub acts-later-laps : Exposed actsLaterLaps (move 1) secondLap
   pub grudges-18 : Exposed grudgesSlots (enter 0) inLine
   pub grudges-20 : Exposed grudgesSlots (move 0) inBuffer
+  pub free-at-18 : (saidIn (grudgesSlots (enter 0) inLine) ≡ says 18) × (hasSlot inLine 0 ≡ true)
+  pub free-at-20 : (saidIn (grudgesSlots (move 0) inBuffer) ≡ says 20) × (hasSlot inBuffer 1 ≡ true)
   pub invents-hops : Exposed invents (hopsLeft 0) inLine
   pub invents-delivery : Exposed invents (move 1) firstLap
   pub moves-nothing : Exposed movesNothing (move 1) firstLap
