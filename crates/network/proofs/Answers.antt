@@ -12,7 +12,7 @@ use Rattle.batch.specs.declared.BatchRecord.{BatchRecord}
 use Rattle.network.specs.declared.Ring.{Ring}
 use Rattle.network.specs.declared.Answer.{Answer}
 use Rattle.network.specs.declared.Answer.the-variants.{Done, Delivered, Hops, Waiting, Refused}
-use Rattle.network.specs.Calls.{done, delivered, hopsAre, waitingAre, Outcome, refused, accepted}
+use Rattle.network.specs.Calls.{done, delivered, hopsAre, waitingAre, refused, accepted}
 use Rattle.network.specs.Answers.{numberIn, valuesIn, outcomeOf, outcomeNumber, outcomeValues, RepliesSay, StepsSay, StepsKeep}
 
 pub replies-say : RepliesSay

@@ -6,26 +6,25 @@ use mathlib.Core.Path.{_≡_, refl, sym, ap, subst, _∙_}
 use mathlib.Core.Logic.{_⊎_, inl, inr, ⊎-elim}
 use mathlib.Core.Bool.{Bool, true, false, _||_, or-true}
 use mathlib.Core.List.{List, [], _∷_, _++_, append-nil}
-use mathlib.Core.Option.{Option, none, some, Option·none-ne-some}
+use mathlib.Core.Option.{Option, some, Option·none-ne-some}
 use native.Mathlib.Omega.{arith}
 use lib.Dec.{ltb}
 use borrow.Author.Tests.{eq-eqb}
-use lib.ListN.{length, getD, List·getD-eq-default}
+use lib.ListN.{List·getD-eq-default}
 use Rattle.refusal.specs.declared.Refusal.{Refusal}
 use Rattle.batch.specs.declared.BatchRecord.{BatchRecord}
-use Rattle.network.specs.Counting.{one, sum}
 use Rattle.network.specs.Network.{Network, Phase, resting, asking, ready, answering, fresh, noChannel, nodeCount, channelCount, channel, moving}
 use Rattle.network.specs.Sound.{Limits, sound}
-use Rattle.network.specs.Calls.{Event, delivered, Outcome, refused, accepted, unless}
+use Rattle.network.specs.Calls.{Event, Outcome, refused, accepted, unless}
 use Rattle.network.specs.Calls
-use Rattle.network.specs.Runs.{Call, enter, move, hopsLeft, waitingSet, call, counts, after, isAccepted, handedOn, sentOn, countedBy, offeredBy, deliveredBy, run, counted, offeredOn, deliveredOn, matchedIn, matched, bound}
+use Rattle.network.specs.Runs.{Call, enter, move, hopsLeft, waitingSet, call, counts, after, isAccepted, handedOn, countedBy, offeredBy, deliveredBy, run, offeredOn, deliveredOn, matchedIn, matched}
 use Rattle.network.specs.declared.Ring.{Ring}
 use Rattle.network.specs.Layout.{ringLimits, view, hold, freshRing, soundRing, heldOutcome, callRing}
 use Rattle.network.specs.Demand.{checkedCall, RefusesUnsound, Safe, InTime, UnderWay, Demand3}
-use Rattle.network.proofs.Cases.{by-test, by-less, by-phase}
-use Rattle.network.proofs.State.{Net, State, Sound, Did, CanEnter, CanMove}
+use Rattle.network.proofs.Cases.{by-test, by-less}
+use Rattle.network.proofs.State.{Net, Sound, Did}
 use Rattle.network.proofs.Tables.{netOf, stateOf}
-use Rattle.network.proofs.Clauses.{Started, facts, sound-started, started-sound}
+use Rattle.network.proofs.Clauses.{Started, facts, sound-started}
 use Rattle.network.proofs.Outcomes.{After, not-done, was-done, Silent}
 use Rattle.network.proofs.Accepted.{Answered, by-step, by-question, Stepped, call-did}
 use Rattle.network.proofs.Before.{Idle, Prepared, call-before, sound-idle, idle-rests, fresh-sound}
@@ -35,7 +34,7 @@ use Rattle.network.proofs.Stall.{no-stall}
 use Rattle.network.proofs.Order.{pending, in-order-step}
 use Rattle.network.proofs.Memory.{Fits, view-hold, hold-fresh, view-fresh, sound-fits, sound-ring, sound-hold}
 use Rattle.network.proofs.Machine.{seenBy, Machine, carried-over}
-use Rattle.network.proofs.Run.{Falls, Arrives, Travels, every-run, run-order}
+use Rattle.network.proofs.Run.{Falls, every-run, run-order}
 
 matched-moves : (f : Phase) (o : Option BatchRecord) (x : BatchRecord) → matchedIn f o ≡ some x → moving f ≡ true
 matched-moves resting o x e = absurd (Option·none-ne-some x e)

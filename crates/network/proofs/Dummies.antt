@@ -1,18 +1,16 @@
 -- The dummies are rejected: each answers a named call at a named ring otherwise than the definitions, by computation; and for the first, the
 -- fourth and the fifth one run, computed, goes past the bound with nothing delivered, or nothing is accepted next, or a record is delivered
 -- that was not offered. Assumes nothing.
-use Prim.Native.Nat.{ℕ, suc, _≤_, _<_}
+use Prim.Native.Nat.{ℕ, suc, _≤_}
 use mathlib.Core.Path.{_≡_, refl, sym, ap, _∙_}
 use mathlib.Core.Logic.{_≢_, ⊎-elim}
-use mathlib.Core.Bool.{Bool, true, false, false≢true}
+use mathlib.Core.Bool.{true, false≢true}
 use mathlib.Core.List.{List, [], _∷_, _++_, nil≢cons, cons≢nil}
 use mathlib.Core.Option.{some}
 use native.Mathlib.Omega.{arith}
-use lib.Dec.{eqb, lit≤}
+use lib.Dec.{lit≤}
 use lib.ListN.{getD}
 use borrow.Author.Tests.{eq-eqb}
-use Rattle.refusal.specs.declared.Refusal.{Refusal}
-use Rattle.refusal.specs.Number.{numberOf}
 use Rattle.refusal.proofs.Number.{in-range}
 use Rattle.batch.specs.declared.BatchRecord.{BatchRecord}
 use Rattle.batch.specs.Good.{verdictOf, goodRecord, batchGood, tempGood, nameLengthGood, nameGood, widthsGood, nameCellsGood}
@@ -23,10 +21,10 @@ use Rattle.network.specs.Network.{Network, fresh}
 use Rattle.network.specs.Sound.{oneMore, soundNode, soundChannel, soundBefore, soundAfter, sound}
 use Rattle.network.specs.Calls.{Event, done, delivered, hopsAre, waitingAre, Outcome, refused, accepted, arrival, holder, hopsOf}
 use Rattle.network.specs.Calls
-use Rattle.network.specs.Runs.{Call, start, enter, move, hopsLeft, waitingSet, call, after, deliveredBy, run, counted, deliveredOn, matched, bound}
-use Rattle.network.specs.Layout.{ringLimits, view, hold, holdHead, freshRing, soundRing, heldOutcome, callRing}
+use Rattle.network.specs.Runs.{Call, start, enter, move, hopsLeft, after, deliveredBy, counted, deliveredOn, matched, bound}
+use Rattle.network.specs.Layout.{ringLimits, view, hold, holdHead, heldOutcome, callRing}
 use Rattle.network.specs.Answers.{Said, saidIn, says, outcomeNumber, outcomeOf, stepOf}
-use Rattle.network.specs.Demand.{UnderWay, Served}
+use Rattle.network.specs.Demand.{UnderWay}
 use Rattle.network.specs.Promise.{MeetsContracts}
 use Rattle.network.specs.Edges.{workedRecord}
 use Rattle.network.specs.Dummies.{Way, truly, actsLaterLaps, grudgesSlots, invents, movesNothing, turnsDown, alwaysSays, begun, inLine, inBuffer, firstLap, secondLap, broken, checkedRing, asCode, Exposed, Demand2Rejects, ServedBy, InOrderBy, Demand3Rejects, elevenLaps, pastTheBound, EachCanFail, SevenCounted}

@@ -2,23 +2,23 @@
 -- runs, computed. The test runs on the ring apart from its layout, which answers as the ring in memory does. Assumes nothing.
 use Prim.Native.Nat.{ℕ, zero, suc, _<_}
 use mathlib.Core.Path.{_≡_, refl, ap, _∙_}
-use mathlib.Core.Bool.{Bool, true, false, _&&_}
+use mathlib.Core.Bool.{Bool, true, _&&_}
 use mathlib.Core.List.{List, [], _∷_}
 use native.Mathlib.Nat.{not-suc-le-zero, le-of-suc-le-suc}
 use lib.Dec.{eqb}
 use lib.ListN.{length, getD}
 use borrow.Author.Tests.{eqb-true}
-use Rattle.batch.specs.Good.{verdictOf, goodRecord, batchGood, tempGood, nameLengthGood, nameGood, widthsGood, nameCellsGood}
+use Rattle.batch.specs.Good.{verdictOf, batchGood, tempGood, nameLengthGood, nameGood, widthsGood, nameCellsGood}
 use Rattle.hops.specs.Hops.{hops, next}
-use Rattle.network.specs.Counting.{sum, weigh, allOf, allBelow}
-use Rattle.network.specs.Network.{Network, fresh}
-use Rattle.network.specs.Calls.{Outcome, arrival}
+use Rattle.network.specs.Counting.{sum}
+use Rattle.network.specs.Network.{fresh}
+use Rattle.network.specs.Calls.{arrival}
 use Rattle.network.specs.Calls
 use Rattle.network.specs.Runs.{Call, addNode, start, call, run, bound}
 use Rattle.network.specs.Layout.{ringLimits, view, freshRing, soundRing, callRing}
 use Rattle.network.specs.Answers.{outcomeNumber, says, answers}
 use Rattle.network.specs.Demand.{AsDefined}
-use Rattle.network.specs.Edges.{Ends, plan, Question, starting, hopsFrom, naming, heating, slotting, counting, Edge, ask, edges, EdgesHold, workedCalls, WorkedRunHolds, turnCalls, TurnHolds}
+use Rattle.network.specs.Edges.{plan, Question, starting, hopsFrom, naming, heating, slotting, counting, Edge, ask, edges, EdgesHold, workedCalls, WorkedRunHolds, turnCalls, TurnHolds}
 use Rattle.network.proofs.Cases.{and-left, and-right}
 use Rattle.network.proofs.Memory.{view-fresh}
 use Rattle.network.proofs.Demand.{ring-safe, ring-demand3}

@@ -1,11 +1,10 @@
 -- What is shown of the ring apart from its layout holds of anything that answers ring calls the same way: a `Machine`. Its runs are
 -- runs of the ring that it holds, call for call, so delivery in time and order are carried over, and demand 3 is whole. Assumes nothing.
-use Prim.Native.Nat.{ℕ, _+_, _≤_, _<_}
-use mathlib.Core.Path.{_≡_, refl, sym, ap, _∙_}
+use Prim.Native.Nat.{ℕ}
+use mathlib.Core.Path.{_≡_, refl, ap, _∙_}
 use mathlib.Core.Logic.{_⊎_, inl, inr, ⊎-elim}
 use mathlib.Core.Bool.{Bool, true, false}
-use mathlib.Core.List.{List, [], _∷_, _++_, map}
-use mathlib.Core.Option.{Option, some}
+use mathlib.Core.List.{List, [], _∷_, map}
 use Rattle.refusal.specs.declared.Refusal.the-variants.{UnsoundRing}
 use Rattle.batch.specs.declared.BatchRecord.{BatchRecord}
 use Rattle.network.specs.Network.{Network}
@@ -13,9 +12,9 @@ use Rattle.network.specs.Network
 use Rattle.network.specs.Sound.{Limits}
 use Rattle.network.specs.Sound
 use Rattle.network.specs.Calls.{Outcome, refused, accepted}
-use Rattle.network.specs.Runs.{Call, enter, move, call, after, isAccepted, countedBy, offeredBy, deliveredBy, run, counted, offeredOn, deliveredOn, matched, bound}
+use Rattle.network.specs.Runs.{Call, enter, move, call, after, isAccepted, countedBy, offeredBy, deliveredBy, run, counted, offeredOn, deliveredOn}
 use Rattle.network.specs.Answers.{saidIn, says, answers}
-use Rattle.network.specs.Demand.{InTime, UnderWay, Served, InOrder, TurnedDown, AsDefined, Demand3}
+use Rattle.network.specs.Demand.{InTime, UnderWay, Served, InOrder, AsDefined, Demand3}
 
 abbrev pub seenBy : {S : Type 0} → (S → Network) → Outcome S → Outcome Network
 seenBy seen (refused r) = refused r

@@ -1,8 +1,7 @@
 -- The edges P1 to P11 of document 01 as one table, and its two worked runs, the one of the tape and the turn case, as lists of calls with
 -- what they answer. All are asked of what the contracts cite: the calls on the ring in memory, `hops` and `verdictOf`. Assumes nothing.
-use Prim.Native.Nat.{ℕ, zero, suc, _<_}
+use Prim.Native.Nat.{ℕ, _<_}
 use mathlib.Core.Path.{_≡_}
-use mathlib.Core.Bool.{Bool}
 use mathlib.Core.List.{List, [], _∷_, _++_, map}
 use lib.IntN.{ℤ, pos, negℤ}
 use lib.ListN.{length, getD, replicate}
