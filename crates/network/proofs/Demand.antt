@@ -6,26 +6,25 @@ use mathlib.Core.Path.{_≡_, refl, sym, ap, subst, _∙_}
 use mathlib.Core.Logic.{_⊎_, inl, inr, ⊎-elim}
 use mathlib.Core.Bool.{Bool, true, false, _||_, or-true}
 use mathlib.Core.List.{List, [], _∷_, _++_, append-nil}
-use mathlib.Core.Option.{Option, none, some, Option·none-ne-some}
+use mathlib.Core.Option.{Option, some, Option·none-ne-some}
 use native.Mathlib.Omega.{arith}
 use lib.Dec.{ltb}
 use borrow.Author.Tests.{eq-eqb}
-use lib.ListN.{length, getD, List·getD-eq-default}
+use lib.ListN.{List·getD-eq-default}
 use Rattle.refusal.specs.declared.Refusal.{Refusal}
 use Rattle.batch.specs.declared.BatchRecord.{BatchRecord}
-use Rattle.network.specs.Counting.{one, sum}
 use Rattle.network.specs.Network.{Network, Phase, resting, asking, ready, answering, fresh, noChannel, nodeCount, channelCount, channel, moving}
 use Rattle.network.specs.Sound.{Limits, sound}
-use Rattle.network.specs.Calls.{Event, delivered, Outcome, refused, accepted, unless}
+use Rattle.network.specs.Calls.{Event, Outcome, refused, accepted, unless}
 use Rattle.network.specs.Calls
-use Rattle.network.specs.Runs.{Call, enter, move, hopsLeft, waitingSet, call, counts, after, isAccepted, handedOn, sentOn, countedBy, offeredBy, deliveredBy, run, counted, offeredOn, deliveredOn, matchedIn, matched, bound}
+use Rattle.network.specs.Runs.{Call, enter, move, hopsLeft, waitingSet, call, counts, after, isAccepted, handedOn, countedBy, offeredBy, deliveredBy, run, offeredOn, deliveredOn, matchedIn, matched}
 use Rattle.network.specs.declared.Ring.{Ring}
 use Rattle.network.specs.Layout.{ringLimits, view, hold, freshRing, soundRing, heldOutcome, callRing}
-use Rattle.network.specs.Demand.{RefusesUnsound, Safe, InTime, UnderWay, Demand3}
-use Rattle.network.proofs.Cases.{by-test, by-less, by-phase}
-use Rattle.network.proofs.State.{Net, State, Sound, Did, CanEnter, CanMove}
+use Rattle.network.specs.Demand.{checkedCall, RefusesUnsound, Safe, InTime, UnderWay, Demand3}
+use Rattle.network.proofs.Cases.{by-test, by-less}
+use Rattle.network.proofs.State.{Net, Sound, Did}
 use Rattle.network.proofs.Tables.{netOf, stateOf}
-use Rattle.network.proofs.Clauses.{Started, facts, sound-started, started-sound}
+use Rattle.network.proofs.Clauses.{Started, facts, sound-started}
 use Rattle.network.proofs.Outcomes.{After, not-done, was-done, Silent}
 use Rattle.network.proofs.Accepted.{Answered, by-step, by-question, Stepped, call-did}
 use Rattle.network.proofs.Before.{Idle, Prepared, call-before, sound-idle, idle-rests, fresh-sound}
@@ -35,7 +34,7 @@ use Rattle.network.proofs.Stall.{no-stall}
 use Rattle.network.proofs.Order.{pending, in-order-step}
 use Rattle.network.proofs.Memory.{Fits, view-hold, hold-fresh, view-fresh, sound-fits, sound-ring, sound-hold}
 use Rattle.network.proofs.Machine.{seenBy, Machine, carried-over}
-use Rattle.network.proofs.Run.{Falls, Arrives, Travels, every-run, run-order}
+use Rattle.network.proofs.Run.{Falls, every-run, run-order}
 
 matched-moves : (f : Phase) (o : Option BatchRecord) (x : BatchRecord) → matchedIn f o ≡ some x → moving f ≡ true
 matched-moves resting o x e = absurd (Option·none-ne-some x e)
@@ -112,6 +111,10 @@ module _ (L : Limits) (N : Net) (m : ℕ) (x : BatchRecord) (lm : m < N .c) wher
 left-unless : (σ : Network) (b : Bool) (r : Refusal) (o : Outcome Network) → after σ o ≡ σ → after σ (unless b (refused r) o) ≡ σ
 left-unless σ true r o e = e
 left-unless σ false r o e = refl
+
+seen-as-is : (o : Outcome Network) → seenBy (λ σ. σ) o ≡ o
+seen-as-is (refused r) = refl
+seen-as-is (accepted e τ) = refl
 
 -- a channel that there is not is matched with nothing
 matched-below : (σ : Network) (m : ℕ) (x : BatchRecord) → matched σ m ≡ some x → m < channelCount σ
@@ -200,21 +203,51 @@ module _ (L : Limits) where
     run-order (call L) k (λ σ. sound L σ ≡ true) (pendingOn k) (λ a σ. call-sound L σ a) (balanced k) calls fresh (fresh-sound L),
   )
 
+  -- the definitions with the test for 25 before them answer as the definitions do, if the ring is sound
+  checked : (a : Call) (σ : Network) → sound L σ ≡ true → checkedCall L a σ ≡ call L a σ
+  unfolding checkedCall
+  checked a σ ok = rw ok
+
+  pub refuses-unsound : RefusesUnsound fresh (sound L) (λ σ. σ) (checkedCall L)
+  unfolding checkedCall
+  refuses-unsound a σ broken = rw broken
+
+  pub machine : Machine L fresh (sound L) (λ σ. σ) (checkedCall L)
+  machine =
+      record {
+        fresh-sound = fresh-sound L;
+        fresh-seen = refl;
+        seen-sound = λ σ ok. ok;
+        step-seen = λ a σ ok. seen-as-is (checkedCall L a σ) ∙ checked a σ ok;
+        step-sound = λ a σ ok. rw (checked a σ ok) (call-sound L σ a ok);
+        step-unsound = refuses-unsound;
+      }
+
   -- demand 3 for every size of ring
-  pub demand3 : Demand3 fresh (sound L) (λ σ. σ) (call L)
+  pub demand3 : Demand3 fresh (sound L) (λ σ. σ) (checkedCall L) L
   unfolding Fulfilled
-  demand3 = record { served = served; in-order = in-order }
+  demand3 = carried-over L fresh (sound L) (λ σ. σ) (checkedCall L) machine served in-order
 
   -- each call by itself
-  pub safe : Safe fresh (sound L) (λ σ. σ) (call L)
-  unfolding Calls.hopsLeft Calls.waitingSet
+  question-leaves : (σ : Network) (a : Call) → after σ (call L a σ) ≡ σ → after σ (checkedCall L a σ) ≡ σ
+  unfolding checkedCall
+  question-leaves σ a e = left-unless σ (sound L σ) _ _ e
+
+  hops-left-leaves : (k : ℕ) (σ : Network) → after σ (call L (hopsLeft k) σ) ≡ σ
+  unfolding Calls.hopsLeft
+  hops-left-leaves k σ = left-unless σ (σ .started) _ _ (left-unless σ (ltb k (channelCount σ)) _ _ refl)
+
+  waiting-set-leaves : (p : ℕ) (σ : Network) → after σ (call L (waitingSet p) σ) ≡ σ
+  unfolding Calls.waitingSet
+  waiting-set-leaves p σ = left-unless σ (ltb p (nodeCount σ)) _ _ refl
+
+  pub safe : Safe fresh (sound L) (λ σ. σ) (checkedCall L)
   safe =
       record {
         fresh-sound = fresh-sound L;
-        sound-kept = λ a σ. call-sound L σ a;
-        refusal-leaves = λ a σ r e. rw e;
-        hops-left-leaves = λ k σ ok. left-unless σ (σ .started) _ _ (left-unless σ (ltb k (channelCount σ)) _ _ refl);
-        waiting-set-leaves = λ p σ ok. left-unless σ (ltb p (nodeCount σ)) _ _ refl;
+        sound-kept = machine .step-sound;
+        hops-left-leaves = λ k σ. question-leaves σ (hopsLeft k) (hops-left-leaves k σ);
+        waiting-set-leaves = λ p σ. question-leaves σ (waitingSet p) (waiting-set-leaves p σ);
       }
 
 -- the ring in memory answers every call as the ring that it holds, if it is sound, and refuses it otherwise
@@ -249,13 +282,17 @@ module _ (a : Call) (ring : Ring) (ok : soundRing ring ≡ true) where
       still (refused r) next = ok
       still (accepted e τ) next = sound-hold τ (next e τ refl)
 
-  -- a call that leaves the ring that is held leaves the ring in memory
-  ring-left : after (view ring) (call ringLimits a (view ring)) ≡ view ring → after ring (callRing a ring) ≡ ring
-  ring-left same = rw called (still (call ringLimits a (view ring)) same)
+-- a call that leaves the ring that is held leaves the ring in memory; an unsound ring is left by its refusal
+module _ (a : Call) (ring : Ring) (same : after (view ring) (call ringLimits a (view ring)) ≡ view ring) where
+  ring-left : after ring (callRing a ring) ≡ ring
+  ring-left =
+      by-test (soundRing ring)
+      (λ ok. rw (called a ring ok) (still (sound-ring ring ok .laid-out) (call ringLimits a (view ring)) same))
+      (λ broken. rw (ring-refuses-unsound a ring broken))
     where
-      still : (o : Outcome Network) → after (view ring) o ≡ view ring → after ring (heldOutcome o) ≡ ring
-      still (refused r) e = refl
-      still (accepted e τ) same = ap hold same ∙ sound-ring ring ok .laid-out
+      still : hold (view ring) ≡ ring → (o : Outcome Network) → after (view ring) o ≡ view ring → after ring (heldOutcome o) ≡ ring
+      still laid (refused r) e = refl
+      still laid (accepted e τ) e′ = ap hold e′ ∙ laid
 
 sound-fresh : soundRing freshRing ≡ true
 sound-fresh = rw (← hold-fresh) (sound-hold fresh (fresh-sound ringLimits))
@@ -268,19 +305,19 @@ ring-machine =
       seen-sound = λ ring ok. sound-ring ring ok .sound;
       step-seen = ring-seen;
       step-sound = ring-kept;
+      step-unsound = ring-refuses-unsound;
     }
 
 -- demand 3 of the ring in memory, for the very calls that the contracts cite
-pub ring-demand3 : Demand3 freshRing soundRing view callRing
-ring-demand3 = carried-over ringLimits freshRing soundRing view callRing ring-machine (demand3 ringLimits)
+pub ring-demand3 : Demand3 freshRing soundRing view callRing ringLimits
+unfolding Fulfilled
+ring-demand3 = carried-over ringLimits freshRing soundRing view callRing ring-machine (served ringLimits) (in-order ringLimits)
 
 pub ring-safe : Safe freshRing soundRing view callRing
 ring-safe =
-    let inner = safe ringLimits in
     record {
       fresh-sound = sound-fresh;
       sound-kept = ring-kept;
-      refusal-leaves = λ a ring r e. rw e;
-      hops-left-leaves = λ k ring ok. ring-left (hopsLeft k) ring ok (inner .hops-left-leaves k (view ring) (inside (hopsLeft k) ring ok));
-      waiting-set-leaves = λ p ring ok. ring-left (waitingSet p) ring ok (inner .waiting-set-leaves p (view ring) (inside (waitingSet p) ring ok));
+      hops-left-leaves = λ k ring. ring-left (hopsLeft k) ring (hops-left-leaves ringLimits k (view ring));
+      waiting-set-leaves = λ p ring. ring-left (waitingSet p) ring (waiting-set-leaves ringLimits p (view ring));
     }

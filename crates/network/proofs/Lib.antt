@@ -32,4 +32,6 @@ pub mod Run
 pub mod Machine
 pub mod Demand
 pub mod Answers
+pub mod Promise
 pub mod Edges
+pub mod Dummies

@@ -1,19 +1,20 @@
 -- What is shown of the ring apart from its layout holds of anything that answers ring calls the same way: a `Machine`. Its runs are
--- runs of the ring that it holds, call for call, so demand 3 is carried over whole. Assumes nothing.
-use Prim.Native.Nat.{ℕ, _+_, _≤_, _<_}
-use mathlib.Core.Path.{_≡_, refl, sym, ap, _∙_}
+-- runs of the ring that it holds, call for call, so delivery in time and order are carried over, and demand 3 is whole. Assumes nothing.
+use Prim.Native.Nat.{ℕ}
+use mathlib.Core.Path.{_≡_, refl, ap, _∙_}
 use mathlib.Core.Logic.{_⊎_, inl, inr, ⊎-elim}
-use mathlib.Core.Bool.{Bool, true}
-use mathlib.Core.List.{List, [], _∷_, _++_}
-use mathlib.Core.Option.{Option, some}
+use mathlib.Core.Bool.{Bool, true, false}
+use mathlib.Core.List.{List, [], _∷_, map}
+use Rattle.refusal.specs.declared.Refusal.the-variants.{UnsoundRing}
 use Rattle.batch.specs.declared.BatchRecord.{BatchRecord}
 use Rattle.network.specs.Network.{Network}
 use Rattle.network.specs.Network
 use Rattle.network.specs.Sound.{Limits}
 use Rattle.network.specs.Sound
 use Rattle.network.specs.Calls.{Outcome, refused, accepted}
-use Rattle.network.specs.Runs.{Call, enter, move, call, after, isAccepted, countedBy, offeredBy, deliveredBy, run, counted, offeredOn, deliveredOn, matched, bound}
-use Rattle.network.specs.Demand.{InTime, UnderWay, Demand3}
+use Rattle.network.specs.Runs.{Call, enter, move, call, after, isAccepted, countedBy, offeredBy, deliveredBy, run, counted, offeredOn, deliveredOn}
+use Rattle.network.specs.Answers.{saidIn, says, answers}
+use Rattle.network.specs.Demand.{InTime, UnderWay, Served, InOrder, AsDefined, Demand3}
 
 abbrev pub seenBy : {S : Type 0} → (S → Network) → Outcome S → Outcome Network
 seenBy seen (refused r) = refused r
@@ -28,6 +29,10 @@ module _ {S : Type 0} (seen : S → Network) where
   seen-accepted : (o : Outcome S) → isAccepted o ≡ isAccepted (seenBy seen o)
   seen-accepted (refused r) = refl
   seen-accepted (accepted e t) = refl
+
+  seen-said : (o : Outcome S) → saidIn o ≡ saidIn (seenBy seen o)
+  seen-said (refused r) = refl
+  seen-said (accepted e t) = refl
 
   seen-counted : (a : Call) (o : Outcome S) → countedBy a o ≡ countedBy a (seenBy seen o)
   seen-counted a (refused r) = refl
@@ -47,9 +52,10 @@ pub record Machine (L : Limits) {S : Type 0} (fresh : S) (sound : S → Bool) (s
   pub seen-sound : (s : S) → sound s ≡ true → Sound.sound L (seen s) ≡ true
   pub step-seen : (a : Call) (s : S) → sound s ≡ true → seenBy seen (step a s) ≡ call L a (seen s)
   pub step-sound : (a : Call) (s : S) → sound s ≡ true → sound (after s (step a s)) ≡ true
+  pub step-unsound : (a : Call) (s : S) → sound s ≡ false → step a s ≡ refused UnsoundRing
 
 module _ (L : Limits) {S : Type 0} (fresh : S) (sound : S → Bool) (seen : S → Network) (step : Call → S → Outcome S) (M : Machine L fresh sound seen step) where
-  open Machine M using (fresh-sound, fresh-seen, seen-sound, step-seen, step-sound)
+  open Machine M using (fresh-sound, fresh-seen, seen-sound, step-seen, step-sound, step-unsound)
 
   seen-next : (a : Call) (s : S) → sound s ≡ true → seen (after s (step a s)) ≡ after (seen s) (call L a (seen s))
   seen-next a s h = seen-after seen s (step a s) ∙ ap (after (seen s)) (step-seen a s h)
@@ -61,6 +67,27 @@ module _ (L : Limits) {S : Type 0} (fresh : S) (sound : S → Bool) (seen : S �
   run-seen : (calls : List Call) (s : S) → sound s ≡ true → seen (run step calls s) ≡ run (call L) calls (seen s)
   run-seen [] s h = refl
   run-seen (a ∷ calls) s h = run-seen calls (after s (step a s)) (step-sound a s h) ∙ ap (run (call L) calls) (seen-next a s h)
+
+  said-seen : (a : Call) (s : S) → sound s ≡ true → saidIn (step a s) ≡ saidIn (call L a (seen s))
+  said-seen a s h = seen-said seen (step a s) ∙ ap saidIn (step-seen a s h)
+
+  answers-seen : (calls : List Call) (s : S) → sound s ≡ true → answers step calls s ≡ answers (call L) calls (seen s)
+  answers-seen [] s h = refl
+  answers-seen (a ∷ calls) s h =
+      rw (said-seen a s h, answers-seen calls (after s (step a s)) (step-sound a s h), seen-next a s h)
+
+  as-defined : (s : S) (calls : List Call) → sound s ≡ true → AsDefined fresh sound seen step L s calls
+  as-defined s calls h =
+      record { same-answers = answers-seen calls s h; same-ring = run-seen calls s h; still-sound = run-sound calls s h }
+
+  -- an unsound ring is refused and stays, so the next call finds it unsound too
+  answers-25 : (calls : List Call) (s : S) → sound s ≡ false → answers step calls s ≡ map (λ a. says 25) calls
+  answers-25 [] s h = refl
+  answers-25 (a ∷ calls) s h = rw (step-unsound a s h, answers-25 calls s h)
+
+  run-stays : (calls : List Call) (s : S) → sound s ≡ false → run step calls s ≡ s
+  run-stays [] s h = refl
+  run-stays (a ∷ calls) s h = rw (step-unsound a s h, run-stays calls s h)
 
   counted-seen : (calls : List Call) (s : S) → sound s ≡ true → counted step calls s ≡ counted (call L) calls (seen s)
   counted-seen [] s h = refl
@@ -80,8 +107,8 @@ module _ (L : Limits) {S : Type 0} (fresh : S) (sound : S → Bool) (seen : S �
   accepted-seen : (a : Call) (s : S) → sound s ≡ true → isAccepted (step a s) ≡ isAccepted (call L a (seen s))
   accepted-seen a s h = seen-accepted seen (step a s) ∙ ap isAccepted (step-seen a s h)
 
-  -- demand 3 of the ring apart from its layout, carried over
-  module _ (D : Demand3 Network.fresh (Sound.sound L) (λ σ. σ) (call L)) where
+  -- what is shown of the definitions, carried over
+  module _ (D : Served Network.fresh (Sound.sound L) (λ σ. σ) (call L)) (O : InOrder Network.fresh (Sound.sound L) (λ σ. σ) (call L)) where
     in-time : (s : S) (m : ℕ) (x : BatchRecord) (calls : List Call) → sound s ≡ true →
         InTime Network.fresh (Sound.sound L) (λ σ. σ) (call L) (seen s) m x calls → InTime fresh sound seen step s m x calls
     in-time s m x calls h i =
@@ -105,13 +132,15 @@ module _ (L : Limits) {S : Type 0} (fresh : S) (sound : S → Bool) (seen : S �
               rw (accepted-seen (enter (u .at)) _ on, accepted-seen (move (u .at)) _ on, run-seen calls s h) (u .next-accepted);
         }
 
-    pub carried-over : Demand3 fresh sound seen step
+    pub carried-over : Demand3 fresh sound seen step L
     carried-over =
         record {
+          each = as-defined;
+          unsound = λ s calls h. record { all-25 = answers-25 calls s h; ring-stays = run-stays calls s h };
           served = λ s m x calls h b e.
               ⊎-elim (λ i. inl (in-time s m x calls h i)) (λ u. inr (under-way s m calls h u))
-              (D .served (seen s) m x calls (seen-sound s h) b e);
+              (D (seen s) m x calls (seen-sound s h) b e);
           in-order = λ k calls.
-              let r = D .in-order k calls in
+              let r = O k calls in
               (r .0, rw (offered-seen k calls fresh fresh-sound, handed-seen k calls fresh fresh-sound, fresh-seen) (r .1));
         }

@@ -1,10 +1,9 @@
 -- From one call to a whole run: a number that falls with every counted call, and is at least 1 while record x is under way on channel m,
 -- bounds the counted calls of every list. Beside it the order of the records delivered. Assumes nothing but its parameters, which
 -- Demand gives.
-use Prim.Native.Nat.{ℕ, _+_, _≤_, _<_}
+use Prim.Native.Nat.{ℕ, _+_, _≤_}
 use mathlib.Core.Path.{_≡_, refl, sym, ap, _∙_}
 use mathlib.Core.Logic.{_⊎_, inl, inr, ⊎-elim}
-use mathlib.Core.Bool.{Bool, true, false}
 use mathlib.Core.List.{List, [], _∷_, _++_, append-assoc, append-nil}
 use native.Mathlib.Omega.{arith}
 use Rattle.batch.specs.declared.BatchRecord.{BatchRecord}

@@ -1,10 +1,13 @@
 -- A call and its answer in code, held against document 01: which call each case of the enum is, and for each case of the answer its
--- number and its values. Assumes nothing.
+-- number and its values; from these, what a step that the code returns says, and what a run answers. Assumes nothing.
 use Prim.Native.Nat.{ℕ}
 use mathlib.Core.Path.{_≡_}
-use mathlib.Core.Bool.{Bool, true, false}
+use mathlib.Core.Bool.{Bool, true, false, cond}
+use mathlib.Core.List.{List, [], _∷_}
 use mathlib.Core.Option.{Option}
+use lib.Dec.{eqb}
 use Rattle.refusal.specs.declared.Refusal.{Refusal}
+use Rattle.refusal.specs.declared.Refusal.the-variants.{UnsoundRing}
 use Rattle.refusal.specs.Number.{numberOf}
 use Rattle.batch.specs.declared.BatchRecord.{BatchRecord}
 use Rattle.batch.specs.Blank.{noRecord}
@@ -73,6 +76,21 @@ replyOf (accepted e s) = eventReply e
 abbrev pub stepOf : Ring → Outcome Ring → Step
 stepOf ring o = record { ring = after ring o; reply = replyOf o }
 
+-- the refusal in an answer that is one; nothing asks for it where the number is 0
+abbrev pub refusalIn : Answer → Refusal
+refusalIn Done = UnsoundRing
+refusalIn (Delivered k) = UnsoundRing
+refusalIn (Hops h) = UnsoundRing
+refusalIn (Waiting w) = UnsoundRing
+refusalIn (Refused r) = r
+
+-- What a returned step says: answered without a refusal number it is accepted, with its values and its ring; else it is refused.
+abbrev pub outcomeOf : Step → Outcome Ring
+outcomeOf s =
+    cond (eqb (numberIn (s .reply .answer)) 0)
+    (accepted (valuesIn (s .reply .answer) (s .reply .delivered)) (s .ring))
+    (refused (refusalIn (s .reply .answer)))
+
 -- document 01's number and values for an outcome
 abbrev pub outcomeNumber : {S : Type 0} → Outcome S → ℕ
 outcomeNumber (refused r) = numberOf r
@@ -87,3 +105,34 @@ abbrev pub RepliesSay : Type 1
 RepliesSay =
     (S : Type 0) (o : Outcome S) →
     (numberIn (replyOf o .answer) ≡ outcomeNumber o) × (valuesIn (replyOf o .answer) (replyOf o .delivered) ≡ outcomeValues o)
+
+-- a step says the number and the values of its reply
+abbrev pub StepsSay : Type 0
+StepsSay =
+    (s : Step) →
+    (outcomeNumber (outcomeOf s) ≡ numberIn (s .reply .answer))
+    × (outcomeValues (outcomeOf s) ≡ valuesIn (s .reply .answer) (s .reply .delivered))
+
+-- the step that a contract promises says the outcome that it is made of
+abbrev pub StepsKeep : Type 0
+StepsKeep = (ring : Ring) (o : Outcome Ring) → outcomeOf (stepOf ring o) ≡ o
+
+-- what a call says: its number, 0 where it is accepted, and its values
+pub record Said : Type 0 where
+  pub number : ℕ
+  pub values : Event
+
+abbrev pub saidIn : {S : Type 0} → Outcome S → Said
+saidIn o = record { number = outcomeNumber o; values = outcomeValues o }
+
+-- a number and no values, or a delivery
+abbrev pub says : ℕ → Said
+says n = record { number = n; values = done }
+
+abbrev pub delivers : ℕ → BatchRecord → Said
+delivers k x = record { number = 0; values = delivered k x }
+
+-- what a run answers, call by call
+abbrev pub answers : {S : Type 0} → (Call → S → Outcome S) → List Call → S → List Said
+answers step [] s = []
+answers step (a ∷ calls) s = saidIn (step a s) ∷ answers step calls (after s (step a s))

@@ -1,18 +1,24 @@
--- What is promised of the vessel ring, stated once for whatever answers ring calls: the ring apart from its layout, and the ring in
--- memory. `Safe` is about each call; `Demand3` is one claim about whole lists of calls, accepted or refused, in any order.
--- Assumes nothing.
+-- What is promised of the vessel ring, stated once for whatever answers ring calls: the ring apart from its layout, the ring in
+-- memory, and code (Promise). `Safe` is about each call; `Demand3` is one claim about whole lists of calls, accepted or refused, in any
+-- order. Assumes nothing.
 use Prim.Native.Nat.{ℕ, _≤_, _<_}
 use mathlib.Core.Path.{_≡_}
 use mathlib.Core.Logic.{_⊎_}
 use mathlib.Core.Bool.{Bool, true, false, _||_}
-use mathlib.Core.List.{List, [], _∷_, _++_}
-use mathlib.Core.Option.{Option, some}
+use mathlib.Core.List.{List, [], _∷_, _++_, map}
+use mathlib.Core.Option.{some}
 use Rattle.batch.specs.declared.BatchRecord.{BatchRecord}
-use Rattle.network.specs.Network.{Network}
-use Rattle.refusal.specs.declared.Refusal.{Refusal}
 use Rattle.refusal.specs.declared.Refusal.the-variants.{UnsoundRing}
-use Rattle.network.specs.Calls.{Outcome, refused}
-use Rattle.network.specs.Runs.{Call, enter, move, hopsLeft, waitingSet, after, isAccepted, run, counted, offeredOn, deliveredOn, matched, bound}
+use Rattle.network.specs.Network.{Network}
+use Rattle.network.specs.Sound.{Limits}
+use Rattle.network.specs.Sound
+use Rattle.network.specs.Calls.{Outcome, refused, unless}
+use Rattle.network.specs.Runs.{Call, enter, move, hopsLeft, waitingSet, call, after, isAccepted, run, counted, offeredOn, deliveredOn, matched, bound}
+use Rattle.network.specs.Answers.{says, answers}
+
+-- the calls of the definitions, with the test for 25 before all others
+unfoldable pub checkedCall : Limits → Call → Network → Outcome Network
+checkedCall L a σ = unless (Sound.sound L σ) (refused UnsoundRing) (call L a σ)
 
 -- S: what is called. fresh: a fresh one. sound: the test for 25. seen: the ring that it holds. step: one call.
 module _ {S : Type 0} (fresh : S) (sound : S → Bool) (seen : S → Network) (step : Call → S → Outcome S) where
@@ -20,13 +26,18 @@ module _ {S : Type 0} (fresh : S) (sound : S → Bool) (seen : S → Network) (s
   abbrev pub RefusesUnsound : Type 0
   RefusesUnsound = (a : Call) (s : S) → sound s ≡ false → step a s ≡ refused UnsoundRing
 
-  -- Each call by itself: a fresh ring is sound, every call keeps a sound ring sound, a refused call and a question leave the ring.
+  -- Each call by itself: a fresh ring is sound, every call keeps a sound ring sound, a question leaves the ring.
+  abbrev pub KeepsSound : Type 0
+  KeepsSound = (a : Call) (s : S) → sound s ≡ true → sound (after s (step a s)) ≡ true
+
+  abbrev pub Leaves : Call → Type 0
+  Leaves a = (s : S) → after s (step a s) ≡ s
+
   pub record Safe : Type 0 where
     pub fresh-sound : sound fresh ≡ true
-    pub sound-kept : (a : Call) (s : S) → sound s ≡ true → sound (after s (step a s)) ≡ true
-    pub refusal-leaves : (a : Call) (s : S) (r : Refusal) → step a s ≡ refused r → after s (step a s) ≡ s
-    pub hops-left-leaves : (k : ℕ) (s : S) → sound s ≡ true → after s (step (hopsLeft k) s) ≡ s
-    pub waiting-set-leaves : (p : ℕ) (s : S) → sound s ≡ true → after s (step (waitingSet p) s) ≡ s
+    pub sound-kept : KeepsSound
+    pub hops-left-leaves : (k : ℕ) → Leaves (hopsLeft k)
+    pub waiting-set-leaves : (p : ℕ) → Leaves (waitingSet p)
 
   -- Record x is delivered on channel m, before any other on it: the calls up to some place hand out x alone on m, and no more than
   -- the bound of them are counted, the delivering move among them.
@@ -55,6 +66,29 @@ module _ {S : Type 0} (fresh : S) (sound : S → Bool) (seen : S → Network) (s
   abbrev pub InOrder : Type 0
   InOrder = (k : ℕ) (calls : List Call) → (left : List BatchRecord) × (offeredOn step k calls fresh ≡ deliveredOn step k calls fresh ++ left)
 
-  pub record Demand3 : Type 0 where
-    pub served : Served
-    pub in-order : InOrder
+  -- From an unsound ring, each call of a run answers 25, and the ring stays.
+  pub record TurnedDown (s : S) (calls : List Call) : Type 0 where
+    pub all-25 : answers step calls s ≡ map (λ a. says 25) calls
+    pub ring-stays : run step calls s ≡ s
+
+  abbrev pub Unsound : Type 0
+  Unsound = (s : S) (calls : List Call) → sound s ≡ false → TurnedDown s calls
+
+  -- L: how many nodes, channels and slots are allowed.
+  module _ (L : Limits) where
+    -- From a sound ring, each call of a run has demand 2's answer and next ring: call by call, the number and the values are those of
+    -- the definitions, and the ring after the run is sound and holds the ring of the definitions.
+    pub record AsDefined (s : S) (calls : List Call) : Type 0 where
+      pub same-answers : answers step calls s ≡ answers (call L) calls (seen s)
+      pub same-ring : seen (run step calls s) ≡ run (call L) calls (seen s)
+      pub still-sound : sound (run step calls s) ≡ true
+
+    abbrev pub Each : Type 0
+    Each = (s : S) (calls : List Call) → sound s ≡ true → AsDefined s calls
+
+    -- Demand 3, all of it, for every list of calls.
+    pub record Demand3 : Type 0 where
+      pub each : Each
+      pub unsound : Unsound
+      pub served : Served
+      pub in-order : InOrder

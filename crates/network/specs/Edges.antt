@@ -1,8 +1,7 @@
--- The edges P1 to P11 of document 01 as one table, and its two worked runs, the listing and the turn case, as lists of calls with the
--- numbers that they answer. Assumes nothing.
-use Prim.Native.Nat.{ℕ, zero, suc, _<_}
+-- The edges P1 to P11 of document 01 as one table, and its two worked runs, the one of the tape and the turn case, as lists of calls with
+-- what they answer. All are asked of what the contracts cite: the calls on the ring in memory, `hops` and `verdictOf`. Assumes nothing.
+use Prim.Native.Nat.{ℕ, _<_}
 use mathlib.Core.Path.{_≡_}
-use mathlib.Core.Bool.{Bool}
 use mathlib.Core.List.{List, [], _∷_, _++_, map}
 use lib.IntN.{ℤ, pos, negℤ}
 use lib.ListN.{length, getD, replicate}
@@ -12,29 +11,24 @@ use Rattle.batch.specs.declared.Verdict.{Verdict}
 use Rattle.batch.specs.declared.Verdict.the-variants.{Good, Refused}
 use Rattle.batch.specs.Good.{verdictOf}
 use Rattle.hops.specs.Hops.{hops}
-use Rattle.network.specs.Network.{Network, fresh}
+use Rattle.network.specs.Network.{Network}
 use Rattle.network.specs.Calls.{Outcome}
-use Rattle.network.specs.Answers.{outcomeNumber}
-use Rattle.network.specs.Runs.{Call, addNode, addChannel, start, receive, send, enter, move, call, after, run, deliveredOn, bound}
-use Rattle.network.specs.Layout.{ringLimits}
+use Rattle.network.specs.Runs.{Call, addNode, addChannel, start, receive, send, enter, move, run, bound}
+use Rattle.network.specs.Layout.{view, freshRing, callRing}
+use Rattle.network.specs.Answers.{outcomeNumber, says, delivers, answers}
 
 -- document 01's number for a verdict on a record
 abbrev pub verdictNumber : Verdict → ℕ
 verdictNumber Good = 0
 verdictNumber (Refused r) = numberOf r
 
--- the numbers that a run answers, call by call
-abbrev pub numbers : {S : Type 0} → (Call → S → Outcome S) → List Call → S → List ℕ
-numbers step [] s = []
-numbers step (a ∷ calls) s = outcomeNumber (step a s) ∷ numbers step calls (after s (step a s))
-
--- a ring with nodes of so many slots each and with channels from sender to receiver, not started
+-- the calls that plan nodes of so many slots each and channels from sender to receiver
 pub record Ends : Type 0 where
   pub from : ℕ
   pub to : ℕ
 
-abbrev pub planned : List ℕ → List Ends → Network
-planned slots ends = run (call ringLimits) (map addNode slots ++ map (λ (e : Ends). addChannel (e .from) (e .to)) ends) fresh
+abbrev pub plan : List ℕ → List Ends → List Call
+plan slots ends = map addNode slots ++ map (λ (e : Ends). addChannel (e .from) (e .to)) ends
 
 -- a record with this temperature, and a name of so many letters in 32 cells
 abbrev pub sample : ℤ → ℕ → List ℕ → BatchRecord
@@ -50,13 +44,18 @@ pub data Question : Type 0 where
   slotting : ℕ → Question
   counting : List ℕ → List Ends → Question
 
-abbrev pub ask : Question → ℕ
-ask (starting slots ends) = outcomeNumber (call ringLimits start (planned slots ends))
-ask (hopsFrom n p q) = hops n p q
-ask (naming size) = verdictNumber (verdictOf (sample (pos 612) size (replicate 32 0x41)))
-ask (heating degrees) = verdictNumber (verdictOf (sample degrees 0 (replicate 32 0)))
-ask (slotting slots) = outcomeNumber (call ringLimits (addNode slots) fresh)
-ask (counting slots ends) = bound (planned slots ends)
+-- asked of whatever answers ring calls (as in Demand): a fresh one, the ring that it holds, and a call
+module _ {S : Type 0} (fresh : S) (seen : S → Network) (step : Call → S → Outcome S) where
+  abbrev pub planned : List ℕ → List Ends → S
+  planned slots ends = run step (plan slots ends) fresh
+
+  abbrev pub ask : Question → ℕ
+  ask (starting slots ends) = outcomeNumber (step start (planned slots ends))
+  ask (hopsFrom n p q) = hops n p q
+  ask (naming size) = verdictNumber (verdictOf (sample (pos 612) size (replicate 32 0x41)))
+  ask (heating degrees) = verdictNumber (verdictOf (sample degrees 0 (replicate 32 0)))
+  ask (slotting slots) = outcomeNumber (step (addNode slots) fresh)
+  ask (counting slots ends) = bound (seen (planned slots ends))
 
 pub record Edge : Type 0 where
   pub question : Question
@@ -92,23 +91,25 @@ edges =
     ∷ edge (counting (1 ∷ 2 ∷ []) (ends 0 0 ∷ ends 1 1 ∷ [])) 156
     ∷ []
 
--- every row of the table is right
+-- every row of the table is right, of the ring in memory
 abbrev pub EdgesHold : Type 0
-EdgesHold = (i : ℕ) → i < length edges → ask (getD edges i (edge (slotting 0) 0) .question) ≡ getD edges i (edge (slotting 0) 0) .answer
+EdgesHold =
+    (i : ℕ) → i < length edges →
+    ask freshRing view callRing (getD edges i (edge (slotting 0) 0) .question) ≡ getD edges i (edge (slotting 0) 0) .answer
 
--- the run of document 01's listing, and the record that it delivers
-abbrev pub listingRecord : BatchRecord
-listingRecord = sample (pos 612) 2 (0x41 ∷ 0x31 ∷ replicate 30 0)
+-- the run of document 01's tape, and the record that it delivers
+abbrev pub workedRecord : BatchRecord
+workedRecord = sample (pos 612) 2 (0x41 ∷ 0x31 ∷ replicate 30 0)
 
-abbrev pub listingCalls : List Call
-listingCalls =
-    addNode 1 ∷ addNode 2 ∷ addChannel 1 0 ∷ start ∷ receive 0 ∷ receive 0 ∷ enter 0 ∷ move 0 ∷ send 0 listingRecord ∷ enter 1
+abbrev pub workedCalls : List Call
+workedCalls =
+    addNode 1 ∷ addNode 2 ∷ addChannel 1 0 ∷ start ∷ receive 0 ∷ receive 0 ∷ enter 0 ∷ move 0 ∷ send 0 workedRecord ∷ enter 1
     ∷ move 1 ∷ move 1 ∷ []
 
-abbrev pub ListingHolds : Type 0
-ListingHolds =
-    (numbers (call ringLimits) listingCalls fresh ≡ 0 ∷ 0 ∷ 0 ∷ 0 ∷ 0 ∷ 10 ∷ 0 ∷ 0 ∷ 0 ∷ 0 ∷ 0 ∷ 19 ∷ [])
-    × (deliveredOn (call ringLimits) 0 listingCalls fresh ≡ listingRecord ∷ [])
+abbrev pub WorkedRunHolds : Type 0
+WorkedRunHolds =
+    answers callRing workedCalls freshRing
+    ≡ says 0 ∷ says 0 ∷ says 0 ∷ says 0 ∷ says 0 ∷ says 10 ∷ says 0 ∷ says 0 ∷ says 0 ∷ says 0 ∷ delivers 0 workedRecord ∷ says 19 ∷ []
 
 -- the turn case: the plan, then the calls of document 01 in their order
 abbrev pub turnCalls : List Call
@@ -118,5 +119,5 @@ turnCalls =
 
 abbrev pub TurnHolds : Type 0
 TurnHolds =
-    numbers (call ringLimits) turnCalls fresh
-    ≡ 0 ∷ 0 ∷ 0 ∷ 0 ∷ 0 ∷ 0 ∷ 0 ∷ 0 ∷ 0 ∷ 0 ∷ 0 ∷ 0 ∷ 0 ∷ 21 ∷ 0 ∷ 20 ∷ 0 ∷ 0 ∷ []
+    answers callRing turnCalls freshRing
+    ≡ map says (0 ∷ 0 ∷ 0 ∷ 0 ∷ 0 ∷ 0 ∷ 0 ∷ 0 ∷ 0 ∷ 0 ∷ 0 ∷ 0 ∷ 0 ∷ 21 ∷ 0 ∷ 20 ∷ 0 ∷ 0 ∷ [])
