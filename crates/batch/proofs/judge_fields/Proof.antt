@@ -6,7 +6,6 @@ use lib.Signed.{ltZ}
 use mir.Syntax.{w16}
 use mir.Val.{toZ, ofZ}
 use mir.Facts.{toZ-ofZ}
-use borrow.Author.Needs.{needs}
 use Rattle.batch.specs.declared.BatchRecord.{BatchRecord}
 use Rattle.batch.specs.Good.{coldest, recordOf, batchGood, tempGood, nameLengthGood, nameGood, widthsGood}
 use Rattle.batch.proofs.Good as good
@@ -82,5 +81,4 @@ returns-6 c =
 
 pub judge-fields-spec : {M : Type 1} → statement M
 judge-fields-spec =
-    tie.close
-    (tie.spec returns returns-2 returns-3 returns-4 name-cells-good-requires returns-5 returns-6)
+    tie.close (tie.spec returns returns-2 returns-3 returns-4 name-cells-good-requires returns-5 returns-6)

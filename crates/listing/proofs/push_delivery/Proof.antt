@@ -30,4 +30,5 @@ returns-2 : tie.Need-returns-2
 returns-2 c = rw (others (c .before .before .args .answer) _ (c .match .keys2)) nothing
 
 pub push-delivery-spec : {M : Type 1} → statement M
-push-delivery-spec = tie.close (tie.spec (λ c. search needs) (λ c κs. search needs) (λ c. search needs) returns returns-2)
+push-delivery-spec =
+    tie.close (tie.spec (λ c. search needs) (λ c κs. search needs) (λ c. search needs) returns returns-2)

@@ -19,5 +19,5 @@ returns c =
 pub write-line-spec : {M : Type 1} → statement M
 write-line-spec =
     tie.close
-    (tie.spec (λ c. search needs) (λ c κs. search needs) (λ c. search needs) slice-aggregate-put-text (λ c κs. search needs)
-    (λ c. search needs) returns)
+    (tie.spec (λ c. search needs) (λ c κs. search needs) (λ c. search needs) slice-aggregate-put-text
+    (λ c κs. search needs) (λ c. search needs) returns)

@@ -23,5 +23,6 @@ returns c =
 pub write-too-long-spec : {M : Type 1} → statement M
 write-too-long-spec =
     tie.close
-    (tie.spec (λ c. search needs) (λ c. search needs) (λ c κs. search needs) (λ c. search needs) (λ c κs. search needs)
-    (λ c. search needs) slice-aggregate-put-text (λ c κs. search needs) (λ c. search needs) returns)
+    (tie.spec (λ c. search needs) (λ c. search needs) (λ c κs. search needs) (λ c. search needs)
+    (λ c κs. search needs) (λ c. search needs) slice-aggregate-put-text (λ c κs. search needs) (λ c. search needs)
+    returns)

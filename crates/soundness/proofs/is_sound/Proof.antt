@@ -111,18 +111,9 @@ returns-6 c =
 pub is-sound-spec : {M : Type 1} → statement M
 is-sound-spec =
     tie.close
-    (tie.spec
-    (λ c κs. search needs)
-    returns
-    (λ c κs. search needs)
-    returns-2
-    (λ c κs. search needs)
-    returns-3
-    (λ c κs. counts (counted (noded (c .before .before))) .channels-within)
-    returns-4
+    (tie.spec (λ c κs. search needs) returns (λ c κs. search needs) returns-2 (λ c κs. search needs) returns-3
+    (λ c κs. counts (counted (noded (c .before .before))) .channels-within) returns-4
     (λ c κs.
     let fit = counts (counted (noded (channelled (c .before .before .before .before .before)))) in
     (fit .nodes-within, fit .channels-within))
-    returns-5
-    (λ c κs. search needs)
-    returns-6)
+    returns-5 (λ c κs. search needs) returns-6)

@@ -43,14 +43,5 @@ returns c =
 pub slot-count-spec : {M : Type 1} → statement M
 slot-count-spec =
     tie.close
-    (tie.spec
-    Inv-loop
-    μ-loop
-    loop-holds
-    (λ c. omega arith)
-    (λ c. search needs)
-    add-total
-    (λ c. omega arith)
-    (λ c. omega arith)
-    loop-again
-    returns)
+    (tie.spec Inv-loop μ-loop loop-holds (λ c. omega arith) (λ c. search needs) add-total (λ c. omega arith)
+    (λ c. omega arith) loop-again returns)

@@ -5,7 +5,8 @@ use lib.IntN.{natAbs}
 use mir.Facts.{toZ-ofZ}
 use borrow.Author.Needs.{needs}
 use Rattle.listing.proofs.Appends.{_then_, up-to}
-use Rattle.listing.proofs.Signed.{below, above, signed-below, signed-above}
+use Rattle.batch.proofs.Signed.{below, above}
+use Rattle.listing.proofs.Digits.{signed-below, signed-above}
 use Rattle.listing.proofs.text.push_signed.Statement.{statement}
 use Rattle.listing.proofs.text.push_signed.Tie as tie
 
@@ -38,5 +39,5 @@ returns-2 c =
 pub push-signed-spec : {M : Type 1} → statement M
 push-signed-spec =
     tie.close
-    (tie.spec (λ c κs. search needs) (λ c κs. search needs) (λ c κs. search needs) (λ c κs. search needs) (λ c κs. search needs)
-    (λ c. search needs) returns (λ c. search needs) returns-2)
+    (tie.spec (λ c κs. search needs) (λ c κs. search needs) (λ c κs. search needs) (λ c κs. search needs)
+    (λ c κs. search needs) (λ c. search needs) returns (λ c. search needs) returns-2)

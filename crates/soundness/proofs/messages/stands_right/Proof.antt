@@ -88,5 +88,4 @@ returns-5 c =
 
 pub stands-right-spec : {M : Type 1} → statement M
 stands-right-spec =
-    tie.close
-    (tie.spec returns returns-2 returns-3 returns-4 (λ c. search needs) (λ c κs. search needs) returns-5)
+    tie.close (tie.spec returns returns-2 returns-3 returns-4 (λ c. search needs) (λ c κs. search needs) returns-5)

@@ -37,5 +37,4 @@ returns-7 c =
     }
 
 pub used-node-spec : {M : Type 1} → statement M
-used-node-spec =
-    tie.close (tie.spec returns returns-2 returns-3 (λ c. search needs) returns-5 returns-6 returns-7)
+used-node-spec = tie.close (tie.spec returns returns-2 returns-3 (λ c. search needs) returns-5 returns-6 returns-7)

@@ -48,19 +48,6 @@ returns c = counting-end (c .before .loop .inv) (c .loop-test .left)
 pub each-fits-spec : {M : Type 1} → statement M
 each-fits-spec =
     tie.close
-    (tie.spec
-    Inv-loop
-    μ-loop
-    (λ c. counting-start)
-    (λ c. omega arith)
-    (λ c. omega arith)
-    (λ c. omega arith)
-    (λ c. omega arith)
-    (λ c. omega arith)
-    (λ c. omega arith)
-    record-fits-requires
-    (λ c. omega arith)
-    (λ c. omega arith)
-    (λ c. omega arith)
-    loop-again
-    returns)
+    (tie.spec Inv-loop μ-loop (λ c. counting-start) (λ c. omega arith) (λ c. omega arith) (λ c. omega arith)
+    (λ c. omega arith) (λ c. omega arith) (λ c. omega arith) record-fits-requires (λ c. omega arith)
+    (λ c. omega arith) (λ c. omega arith) loop-again returns)

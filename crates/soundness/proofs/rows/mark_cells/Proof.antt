@@ -59,23 +59,9 @@ returns-4 c = says-passed (passing-end _ _ _ _ (c .before .loop .inv) (c .loop-t
 pub mark-cells-spec : {M : Type 1} → statement M
 mark-cells-spec =
     tie.close
-    (tie.spec
-    Inv-loop
-    μ-loop
-    (λ c. passing-start _ _ _ _)
-    (λ c. omega arith)
-    (λ c. c .before .before .before .loop .inv .long)
-    returns
-    (λ c. c .before .before .before .before .loop .inv .long)
-    returns-2
-    (λ c. omega arith)
-    cast-k
-    (λ c. in-table (c .before))
-    (λ c. c .before .before .before .before .before .before .loop .inv .long)
-    returns-3
-    (λ c. in-table (c .before .before))
-    (λ c. omega arith)
-    (λ c. omega arith)
-    loop-again
-    (λ c. c .before .loop .inv .long)
-    returns-4)
+    (tie.spec Inv-loop μ-loop (λ c. passing-start _ _ _ _) (λ c. omega arith)
+    (λ c. c .before .before .before .loop .inv .long) returns
+    (λ c. c .before .before .before .before .loop .inv .long) returns-2 (λ c. omega arith) cast-k
+    (λ c. in-table (c .before)) (λ c. c .before .before .before .before .before .before .loop .inv .long) returns-3
+    (λ c. in-table (c .before .before)) (λ c. omega arith) (λ c. omega arith) loop-again
+    (λ c. c .before .loop .inv .long) returns-4)

@@ -25,10 +25,5 @@ returns-2 c =
 pub mark-row-spec : {M : Type 1} → statement M
 mark-row-spec =
     tie.close
-    (tie.spec
-    (λ c κs. search needs)
-    returns
-    slice-aggregate-mark-cells
-    (λ c κs. search needs)
-    (λ c. search needs)
+    (tie.spec (λ c κs. search needs) returns slice-aggregate-mark-cells (λ c κs. search needs) (λ c. search needs)
     returns-2)
