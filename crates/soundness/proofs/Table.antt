@@ -13,11 +13,10 @@ use lib.Seq.{getD-set-same, getD-set-other, getD-take, length-take-le}
 use Rattle.network.specs.Counting.{one, sum, weigh, count}
 use Rattle.network.specs.Layout.{channelRoom, rowLength, row, padded, cellsOf, queueOf}
 use Rattle.network.proofs.Cases.{by-same, by-test, by-less, by-option}
-use Rattle.network.proofs.Counting.{count-same, count-other, sum-same, sum-add, sum-ones}
+use Rattle.network.proofs.Counting.{count-same, count-other, sum-same, sum-add, sum-ones, sum-beyond}
 use Rattle.network.proofs.Rows.{padded-is, getD-blanks}
 use Rattle.soundness.specs.Marks.{inBuffer, inLine, fresh, mark, cellsInUse, markRow, markRows, markAll}
 use Rattle.soundness.proofs.Marks.{Fresh, decides-fresh, mark-fresh, no-table, same-table, row-right, row-wrong, afterBuffers, all-stop, all-more}
-use Rattle.soundness.proofs.Loops.{sum-rest, sum-beyond}
 
 -- used cells, each with a channel in use
 
@@ -47,6 +46,17 @@ used-one : (c : ℕ) (xs : List ℕ) → Used c xs → (i : ℕ) → i < length 
 used-one c [] u i l = absurd (not-suc-le-zero l)
 used-one c (x ∷ xs) u zero l = omega (arith, u .0)
 used-one c (x ∷ xs) u (suc i) l = used-one c xs (u .2) i (omega arith)
+
+-- a first part of a sum, and one term beyond it, are at most the whole
+
+sum-most : (m n : ℕ) (f : ℕ → ℕ) → n ≤ m → sum n f ≤ sum m f
+unfolding sum
+sum-most zero n f l = let e : n ≡ 0 = omega arith in rw e (omega arith)
+sum-most (suc m) n f l = by-same n (suc m) (λ e. rw e (omega arith)) (λ d. omega (arith, sum-most m n f (omega arith)))
+
+sum-rest : (m n i : ℕ) (f : ℕ → ℕ) → n ≤ i → i < m → sum n f + f i ≤ sum m f
+unfolding sum
+sum-rest m n i f l inside = omega (arith, sum-most i n f l, sum-most m (suc i) f inside)
 
 -- a row: its first cells are used, and as many as are not zero, so the others are zero
 

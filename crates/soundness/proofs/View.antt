@@ -11,9 +11,8 @@ use Rattle.network.specs.Network.{Network, nodeCount, channelCount, slotCount, 
 use Rattle.network.specs.Sound.{lastCount}
 use Rattle.network.specs.Layout.{nodeRoom, channelRoom, rowLength, viewNode, viewChannel, view, holdHead, hold}
 use Rattle.network.proofs.Rows.{length-tabulate, getD-tabulate, tabulate-is, rows-is}
-use Rattle.network.proofs.Counting.{sum-same}
+use Rattle.network.proofs.Counting.{sum-same, sum-beyond}
 use Rattle.network.proofs.Memory.{Held, no-node}
-use Rattle.soundness.proofs.Loops.{sum-beyond}
 
 -- what the types say of the head of any ring
 pub record Whole (head : Head) : Type 0 where
