@@ -73,7 +73,8 @@ fn push_line(text: &mut [u8], number: u32, command: u8, reply: Reply) -> usize
     requires { ⌜ lineRoom ≤ length (now text) ⌝ }
     ensures { λ r. ⌜ Appends (now (text .entry)) (now (text .exit)) 0 r (lineOf number command reply) lineRoom ⌝ }
 {
-    let refusal = refusal_in(reply.answer);
+    let answer = reply.answer;
+    let refusal = refusal_in(answer);
     let numbered = text::push_decimal(text, 0, number);
     let named = text::push_hex(text, numbered, command);
     let answered = text::push_field(text, named, refusal as u32);

@@ -1,29 +1,31 @@
 -- `soundness::messages::stands_right` meets its contract, by the phase and then by the place. Assumes nothing.
-use Prim.Native.Nat.{ℕ, _-_, _≤_}
+use Prim.Native.Nat.{ℕ, _-_, _≤_, _<_}
 use mathlib.Core.Path.{_≡_, sym, _∙_}
 use mathlib.Core.Bool.{Bool}
-use mathlib.Core.Logic.{⊎-elim}
+use mathlib.Core.Logic.{_≢_, ⊎-elim}
 use native.Mathlib.Omega.{arith}
+use lib.Dec.{eqb}
 use borrow.Author.Needs.{needs}
 use Rattle.network.proofs.Cases.{by-same}
 use Rattle.soundness.specs.Decides.{Decides}
-use Rattle.soundness.specs.Marks.{inBuffer, inLine}
+use Rattle.soundness.specs.RowPass.{inBuffer, inLine}
 use Rattle.soundness.specs.Fits.{UnderWay, Stands}
 use Rattle.soundness.proofs.Decides.{says-no, restated, decides-same}
 use Rattle.soundness.proofs.messages.stands_right.Statement.{statement}
 use Rattle.soundness.proofs.messages.stands_right.Tie as tie
 
-returns : tie.Need-returns
-returns c =
+-- a channel that rests or is ready has no message
+nowhere : {phase sender receiver place : ℕ} → phase ≢ 1 → phase < 3 → Decides (eqb place 0) (Stands phase sender receiver place)
+nowhere {phase} still most =
     restated
-    (λ e. record { resting = λ h. e; asking = λ h. absurd (omega arith); ready = λ h. e; answering = λ h. absurd (omega arith) })
-    (λ s. s .resting (c .if1 .taken)) (decides-same _ 0)
+    (λ e. record { resting = λ h. e; asking = λ h. absurd (still h); ready = λ h. e; answering = λ h. absurd (omega arith) })
+    (λ s. by-same phase 0 (s .resting) (λ d. s .ready (omega arith))) (decides-same _ 0)
+
+returns : tie.Need-returns
+returns c = nowhere (omega arith) (omega arith)
 
 returns-2 : tie.Need-returns-2
-returns-2 c =
-    restated
-    (λ e. record { resting = λ h. e; asking = λ h. absurd (omega arith); ready = λ h. e; answering = λ h. absurd (omega arith) })
-    (λ s. s .ready (c .if2 .taken)) (decides-same _ 0)
+returns-2 c = nowhere (omega arith) (omega arith)
 
 returns-3 : tie.Need-returns-3
 returns-3 c =
@@ -57,8 +59,11 @@ module _ {phase sender receiver place : ℕ} {r : Bool} where
       })
       (λ s. s .answering l)
 
+abbrev start : tie.Else3 → tie.Start
+start c = c .before .before .before
+
 routed : (c : tie.Joined4) {r : Bool} →
-    let given = c .before .before .before .before .args in
+    let given = start (c .before) .args in
     Decides r (UnderWay (c .if4 .entry) (c .if4 .target) (given .place)) →
     Decides r (Stands (given .phase) (given .sender) (given .receiver) (given .place))
 routed c d =
@@ -67,7 +72,7 @@ routed c d =
 
 returns-4 : tie.Need-returns-4
 returns-4 c =
-    let place = c .before .before .before .before .before .args .place in
+    let place = start (c .before .before) .args .place in
     routed (c .before)
     (restated
     (λ e. record { somewhere = omega arith; in-buffer = λ p l h. absurd (omega arith); in-line = λ p h. omega arith })
@@ -75,7 +80,7 @@ returns-4 c =
 
 returns-5 : tie.Need-returns-5
 returns-5 c =
-    let place = c .before .before .before .before .before .before .args .place in
+    let place = start (c .before .before .before) .args .place in
     routed (c .before .before)
     (record {
       holds = λ e. record {

@@ -5,7 +5,7 @@ use mathlib.Core.Logic.{⊎-elim}
 use native.Mathlib.Omega.{arith}
 use lib.ListN.{getD}
 use Rattle.network.specs.Layout.{rowLength}
-use Rattle.soundness.specs.Marks.{cellsInUse}
+use Rattle.soundness.specs.RowPass.{cellsInUse}
 use Rattle.soundness.proofs.Loops.{Summing, summing-start, summing-turn, summing-end}
 use Rattle.soundness.proofs.rows.cells_in_use.Statement.{statement}
 use Rattle.soundness.proofs.rows.cells_in_use.Tie as tie

@@ -3,8 +3,8 @@ use mathlib.Core.Path.{_≡_, sym, _∙_}
 use native.Mathlib.Omega.{arith}
 use lib.Seq.{length-take-le}
 use borrow.Author.Needs.{needs}
-use Rattle.soundness.specs.Marks.{cellsInUse}
-use Rattle.soundness.proofs.Marks.{in-use-most, row-right, row-wrong, says-stopped}
+use Rattle.soundness.specs.RowPass.{cellsInUse}
+use Rattle.soundness.proofs.RowPass.{in-use-most, row-right, row-wrong, says-stopped}
 use Rattle.soundness.proofs.rows.mark_row.Statement.{statement}
 use Rattle.soundness.proofs.rows.mark_row.Tie as tie
 
