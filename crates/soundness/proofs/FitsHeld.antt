@@ -1,17 +1,18 @@
 -- A ring that fits (specs/Fits) holds in its arrays what is read off them, node by node and channel by channel. Assumes nothing.
-use Prim.Native.Nat.{ℕ, _≤_, _<_}
-use mathlib.Core.Path.{refl, sym}
+use Prim.Native.Nat.{ℕ, _*_, _≤_, _<_}
+use mathlib.Core.Path.{_≡_, refl, sym}
+use mathlib.Core.List.{List, []}
 use native.Mathlib.Omega.{arith}
-use lib.ListN.{getD}
+use lib.ListN.{length, getD, drop}
 use borrow.Author.Tests.{lt-ltb, le-ltb}
 use Rattle.wire.specs.Record.{recordLength}
 use Rattle.network.specs.declared.Ring.{Ring}
 use Rattle.network.specs.Network.{Network}
-use Rattle.network.specs.Layout.{nodeRoom, channelRoom, rowLength, recordAt, view}
+use Rattle.network.specs.Layout.{nodeRoom, channelRoom, rowLength, cellRoom, recordRoom, row, padded, recordAt, view}
 use Rattle.network.proofs.Cases.{by-less}
 use Rattle.network.proofs.Counting.{one-most}
 use Rattle.network.proofs.Memory.{HeldNode, HeldChannel, Held, no-node, no-channel}
-use Rattle.soundness.specs.Fits.{UsedNode, UsedChannel, Nothing, Fits}
+use Rattle.soundness.specs.Fits.{UsedNode, UsedChannel, Nothing, Blank, Fits}
 use Rattle.soundness.proofs.Zeros.{beyond-row}
 use Rattle.soundness.proofs.PlacesMet.{Places, all-met}
 use Rattle.soundness.proofs.Codes.{flag-kept, code-kept, carried-is, offered-kept, offer-is}
@@ -47,6 +48,16 @@ module _ (ring : Ring) (f : Fits ring) where
   pub table : Places (nodes ring) (channels ring) (f .counts .channels-within) (ring .head .used) (ring .head .waiting) (ring .slots) (ring .lines) (f .messages .places)
   table = all-met (nodes ring) (channels ring) (f .counts .channels-within) _ _ _ _ (f .messages .places) (f .messages .marked)
 
+  -- beyond what is in use there are zeros
+
+  blank-row : (cells : List ℕ) → length cells ≡ cellRoom → Blank (drop (rowLength * nodes ring) cells) → (p : ℕ) → nodes ring ≤ p →
+      p < nodeRoom → row rowLength cells p ≡ padded rowLength []
+  blank-row = beyond-row rowLength nodeRoom (nodes ring) (omega arith)
+
+  blank-record : (cells : List ℕ) → length cells ≡ recordRoom → Blank (drop (recordLength * channels ring) cells) → (k : ℕ) →
+      channels ring ≤ k → k < channelRoom → row recordLength cells k ≡ padded recordLength []
+  blank-record = beyond-row recordLength channelRoom (channels ring) (omega arith)
+
   -- the arrays hold what is read off them
 
   pub node-held : (p : ℕ) → p < nodeRoom → HeldNode ring σ p
@@ -73,10 +84,8 @@ module _ (ring : Ring) (f : Fits ring) where
         used = rw e (b .1);
         waiting = rw e (b .2);
         mark = rw e (b .3);
-        buffer-row =
-            rw e (beyond-row rowLength nodeRoom (nodes ring) (omega arith) (ring .slots) (f .messages .slots-whole) (f .messages .slots-beyond) p past l);
-        line-row =
-            rw e (beyond-row rowLength nodeRoom (nodes ring) (omega arith) (ring .lines) (f .messages .lines-whole) (f .messages .lines-beyond) p past l);
+        buffer-row = rw e (blank-row (ring .slots) (f .messages .slots-whole) (f .messages .slots-beyond) p past l);
+        line-row = rw e (blank-row (ring .lines) (f .messages .lines-whole) (f .messages .lines-beyond) p past l);
       })
 
   pub channel-held : (k : ℕ) → k < channelRoom → HeldChannel ring σ k
@@ -104,10 +113,8 @@ module _ (ring : Ring) (f : Fits ring) where
         receiver = rw e (b .1);
         phase = rw e (b .2);
         offered = rw e (b .3);
-        offer-row =
-            rw e (beyond-row recordLength channelRoom (channels ring) (omega arith) (ring .offers) (f .records .offers-whole) (f .records .offers-beyond) k past l);
-        carried-row =
-            rw e (beyond-row recordLength channelRoom (channels ring) (omega arith) (ring .carried) (f .records .carried-whole) (f .records .carried-beyond) k past l);
+        offer-row = rw e (blank-record (ring .offers) (f .records .offers-whole) (f .records .offers-beyond) k past l);
+        carried-row = rw e (blank-record (ring .carried) (f .records .carried-whole) (f .records .carried-beyond) k past l);
       })
 
   pub held : Held ring σ

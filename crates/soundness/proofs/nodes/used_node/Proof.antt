@@ -9,15 +9,6 @@ use Rattle.soundness.proofs.Decides.{says-no}
 use Rattle.soundness.proofs.nodes.used_node.Statement.{statement}
 use Rattle.soundness.proofs.nodes.used_node.Tie as tie
 
-returns : tie.Need-returns
-returns c = says-no (λ u. omega arith)
-
-returns-2 : tie.Need-returns-2
-returns-2 c = says-no (λ u. omega arith)
-
-returns-3 : tie.Need-returns-3
-returns-3 c = says-no (λ u. omega arith)
-
 -- the start, where a mark stands
 abbrev start : tie.Else4 → tie.Start
 start c = c .before .before .before .before
@@ -41,4 +32,4 @@ returns-7 c =
     }
 
 pub used-node-spec : {M : Type 1} → statement M
-used-node-spec = tie.close (tie.spec returns returns-2 returns-3 (λ c. search needs) returns-5 returns-6 returns-7)
+used-node-spec = tie.close (tie.spec (λ c. says-no (λ u. omega arith)) (λ c. says-no (λ u. omega arith)) (λ c. says-no (λ u. omega arith)) (λ c. search needs) returns-5 returns-6 returns-7)
