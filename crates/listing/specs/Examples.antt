@@ -1,9 +1,9 @@
--- Lines of the report that document 01 shows, and one with a temperature below 0 and no name. Each row has the bytes that a line is to be, and the
--- line as it is defined. Assumes nothing.
+-- Lines of the report that document 01 shows, and one with a temperature below 0 and no name. Each row has the bytes that a line is to
+-- be, and the line as it is defined. Assumes nothing.
 use Prim.Native.Nat.{ℕ}
 use mathlib.Core.Path.{_≡_}
 use mathlib.Core.List.{List, [], _∷_, _++_, map}
-use lib.IntN.{ℤ, pos, negℤ}
+use lib.IntN.{pos, negℤ}
 use lib.ListN.{replicate}
 use Rattle.refusal.specs.declared.Refusal.the-variants.{BufferEmpty}
 use Rattle.batch.specs.Good.{recordOf}

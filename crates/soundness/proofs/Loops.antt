@@ -2,7 +2,7 @@
 -- statement holds of every place passed (`Judging`), or what the places passed add up to (`Summing`). For each: the invariant, that it
 -- holds at the start, that a turn keeps it, and what it says at the end. Assumes nothing.
 use Prim.Native.Nat.{ℕ, _+_, _*_, _≤_, _<_}
-use mathlib.Core.Path.{_≡_, refl, sym}
+use mathlib.Core.Path.{_≡_, refl}
 use mathlib.Core.Bool.{Bool, true, false, not}
 use mathlib.Core.List.{List}
 use mathlib.Core.Logic.{_⊎_, ⊎-elim}

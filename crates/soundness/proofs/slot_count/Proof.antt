@@ -1,5 +1,5 @@
 -- `soundness::slot_count` meets its contract: the loop adds up the slots of the nodes (proofs/Loops). Assumes nothing.
-use Prim.Native.Nat.{ℕ, _-_}
+use Prim.Native.Nat.{_-_}
 use mathlib.Core.Path.{refl}
 use native.Mathlib.Omega.{arith}
 use lib.ListN.{getD}

@@ -1,6 +1,5 @@
 -- `soundness::rows::cells_in_use` meets its contract: the loop adds up 1 for each cell that is not zero (proofs/Loops). Assumes nothing.
-use Prim.Native.Nat.{ℕ, _-_, min}
-use mathlib.Core.List.{List}
+use Prim.Native.Nat.{_-_, min}
 use mathlib.Core.Logic.{⊎-elim}
 use native.Mathlib.Omega.{arith}
 use lib.ListN.{getD}
