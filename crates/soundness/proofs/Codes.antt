@@ -18,7 +18,7 @@ use Rattle.network.proofs.Cases.{by-test, by-same, both-ways}
 use Rattle.network.proofs.Memory.{OfferFits, CarriedFits, record-kept}
 use Rattle.soundness.specs.Fits.{BytesFit}
 
--- flags and codes that are in range
+-- a number in range is read back as it was
 
 flag-cases {ℓ} : (P : ℕ → Type ℓ) → P 0 → P 1 → (flag : ℕ) → flag ≤ 1 → P flag
 flag-cases P off on flag l = by-same flag 1 (λ e. rw e on) (λ d. let e : flag ≡ 0 = omega arith in rw e off)
@@ -53,11 +53,19 @@ module _ (x : BatchRecord) where
       code-cases (λ code. (eqb code 3 ≡ true → goodRecord x ≡ true) → goodCarried (phaseOf code x) ≡ true) (λ good. refl) (λ good. refl)
       (λ good. refl) (λ good. good refl)
 
+-- what a code or a flag says of the phase, the mark or the offer
+
 pub code-rests : (g : Phase) → phaseCode g ≡ 0 → isResting g ≡ true
 code-rests resting e = refl
 code-rests asking e = absurd (omega arith)
 code-rests ready e = absurd (omega arith)
 code-rests (answering x) e = absurd (omega arith)
+
+pub code-ready : (g : Phase) → phaseCode g ≡ 2 → g ≡ ready
+code-ready resting e = absurd (omega arith)
+code-ready asking e = absurd (omega arith)
+code-ready ready e = refl
+code-ready (answering x) e = absurd (omega arith)
 
 pub not-raised : (b : Bool) → one b ≡ 0 → not b ≡ true
 not-raised true e = absurd (omega arith)
@@ -67,19 +75,13 @@ pub none-offered : (o : Option BatchRecord) → offeredFlag o ≡ 0 → o ≡ no
 none-offered none e = refl
 none-offered (some x) e = absurd (omega arith)
 
--- codes and flags are in range
+-- the code of a phase and the flag of an offer are in range
 
 pub code-most : (g : Phase) → phaseCode g ≤ 3
 code-most resting = omega arith
 code-most asking = omega arith
 code-most ready = omega arith
 code-most (answering x) = omega arith
-
-pub code-ready : (g : Phase) → phaseCode g ≡ 2 → g ≡ ready
-code-ready resting e = absurd (omega arith)
-code-ready asking e = absurd (omega arith)
-code-ready ready e = refl
-code-ready (answering x) e = absurd (omega arith)
 
 pub flag-most : (o : Option BatchRecord) → offeredFlag o ≤ 1
 flag-most none = omega arith

@@ -36,8 +36,8 @@ module _ (ring : Ring) (f : Fits ring) where
   blank-node p l m = rw (le-ltb p (nodes ring) l) at (f .nodes p m)
 
   pub used-channel : (k : ℕ) → k < channels ring →
-      UsedChannel (begun ring) (nodes ring) (getD (ring .head .senders) k 0) (getD (ring .head .receivers) k 0) (getD (ring .head .phases) k 0)
-      (getD (ring .head .offered) k 0)
+      UsedChannel (begun ring) (nodes ring) (getD (ring .head .senders) k 0) (getD (ring .head .receivers) k 0)
+      (getD (ring .head .phases) k 0) (getD (ring .head .offered) k 0)
   used-channel k l = rw (lt-ltb k (channels ring) l) at (f .channels k (omega (arith, f .counts .channels-within)))
 
   blank-channel : (k : ℕ) → channels ring ≤ k → k < channelRoom →
@@ -45,7 +45,9 @@ module _ (ring : Ring) (f : Fits ring) where
       (getD (ring .head .offered) k 0)
   blank-channel k l m = rw (le-ltb k (channels ring) l) at (f .channels k m)
 
-  pub table : Places (nodes ring) (channels ring) (f .counts .channels-within) (ring .head .used) (ring .head .waiting) (ring .slots) (ring .lines) (f .messages .places)
+  pub table :
+      Places (nodes ring) (channels ring) (f .counts .channels-within) (ring .head .used) (ring .head .waiting) (ring .slots)
+      (ring .lines) (f .messages .places)
   table = all-met (nodes ring) (channels ring) (f .counts .channels-within) _ _ _ _ (f .messages .places) (f .messages .marked)
 
   -- beyond what is in use there are zeros

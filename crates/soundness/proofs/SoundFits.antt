@@ -51,7 +51,8 @@ module _ (ring : Ring) (s : SoundRing ring) where
         (λ k m. known-channel k (s .facts .each-node p known-node .in-line k m .0)) (s .holds .nodes p in-room .line-row)
 
   -- a channel that stands on the ring stands at some node, in its buffer or in its line
-  module _ {ℓ} {X : Type ℓ} (k : ℕ) (met : 1 ≤ timesOn σ k) (in-buffer : (p : ℕ) → p < nodes ring → 0 < count k (node σ p .buffer) → X)
+  module _ {ℓ} {X : Type ℓ} (k : ℕ) (met : 1 ≤ timesOn σ k)
+      (in-buffer : (p : ℕ) → p < nodes ring → 0 < count k (node σ p .buffer) → X)
       (in-line : (p : ℕ) → p < nodes ring → 0 < count k (node σ p .line) → X) where
     by-place : X
     by-place =
@@ -97,7 +98,8 @@ module _ (ring : Ring) (s : SoundRing ring) where
       ends : (enters < nodes ring) × (goes-to < nodes ring)
       ends =
           let facts = s .facts .each-channel k (rw (channel-count-of ring) l) in
-          ends-below (channel σ k) (nodes ring) (rw (node-count-of ring) at (facts .sender-below)) (rw (node-count-of ring) at (facts .receiver-below))
+          ends-below (channel σ k) (nodes ring) (rw (node-count-of ring) at (facts .sender-below))
+          (rw (node-count-of ring) at (facts .receiver-below))
           (channel σ k .phase)
 
       at-buffer : (p : ℕ) → p < nodes ring → 0 < count k (node σ p .buffer) → UnderWay enters goes-to (place k)
@@ -141,8 +143,8 @@ module _ (ring : Ring) (s : SoundRing ring) where
         absurd (omega (arith, moves k)))))
 
   messages-fit :
-      MessagesFit (nodes ring) (channels ring) (ring .head .used) (ring .head .waiting) (ring .head .phases) (ring .head .senders) (ring .head .receivers)
-      (ring .slots) (ring .lines)
+      MessagesFit (nodes ring) (channels ring) (ring .head .used) (ring .head .waiting) (ring .head .phases) (ring .head .senders)
+      (ring .head .receivers) (ring .slots) (ring .lines)
   messages-fit =
       let passed =
       all-pass (nodes ring) (channels ring) within (ring .head .used) (ring .head .waiting) (ring .slots) (ring .lines) buffer-used line-used

@@ -80,8 +80,8 @@ module _ (ring : Ring) (s : SoundRing ring) where
   -- nodes and channels of the ring, in memory and as they are read off
   module _ (p : ℕ) (l : p < nodeRoom) where
     pub node-fits :
-        NodeFits (ltb p (nodes ring)) (begun ring) (getD (ring .head .capacity) p 0) (getD (ring .head .used) p 0) (getD (ring .head .waiting) p 0)
-        (getD (ring .head .marks) p 0)
+        NodeFits (ltb p (nodes ring)) (begun ring) (getD (ring .head .capacity) p 0) (getD (ring .head .used) p 0)
+        (getD (ring .head .waiting) p 0) (getD (ring .head .marks) p 0)
     node-fits =
         let h = s .holds .nodes p l in
         by-less p (nodes ring)
@@ -109,8 +109,8 @@ module _ (ring : Ring) (s : SoundRing ring) where
 
   module _ (k : ℕ) (l : k < channelRoom) where
     pub channel-fits :
-        ChannelFits (ltb k (channels ring)) (begun ring) (nodes ring) (getD (ring .head .senders) k 0) (getD (ring .head .receivers) k 0) (getD (ring .head .phases) k 0)
-        (getD (ring .head .offered) k 0)
+        ChannelFits (ltb k (channels ring)) (begun ring) (nodes ring) (getD (ring .head .senders) k 0) (getD (ring .head .receivers) k 0)
+        (getD (ring .head .phases) k 0) (getD (ring .head .offered) k 0)
     channel-fits =
         let h = s .holds .channels k l in
         let g = channel σ k .phase in

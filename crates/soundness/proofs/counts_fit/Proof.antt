@@ -8,4 +8,7 @@ returns-4 : tie.Need-returns-4
 returns-4 c = restated (λ e. omega arith) (λ f. f .spare-zero) (decides-same _ _)
 
 pub counts-fit-spec : {M : Type 1} → statement M
-counts-fit-spec = tie.close (tie.spec (λ c. says-no (λ f. omega arith)) (λ c. says-no (λ f. omega arith)) (λ c. says-no (λ f. omega arith)) returns-4)
+counts-fit-spec =
+    tie.close
+    (tie.spec (λ c. says-no (λ f. omega arith)) (λ c. says-no (λ f. omega arith)) (λ c. says-no (λ f. omega arith))
+    returns-4)

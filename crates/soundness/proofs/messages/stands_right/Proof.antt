@@ -11,15 +11,14 @@ use Rattle.soundness.specs.Decides.{Decides}
 use Rattle.soundness.specs.RowPass.{inBuffer, inLine}
 use Rattle.soundness.specs.Fits.{UnderWay, Stands}
 use Rattle.soundness.proofs.Decides.{says-no, restated, decides-same}
+use Rattle.soundness.proofs.Way.{stands-nowhere, stands-asking, stands-answering}
 use Rattle.soundness.proofs.messages.stands_right.Statement.{statement}
 use Rattle.soundness.proofs.messages.stands_right.Tie as tie
 
 -- a channel that rests or is ready has no message
 nowhere : {phase sender receiver place : ℕ} → phase ≢ 1 → phase < 3 → Decides (eqb place 0) (Stands phase sender receiver place)
 nowhere {phase} still most =
-    restated
-    (λ e. record { resting = λ h. e; asking = λ h. absurd (still h); ready = λ h. e; answering = λ h. absurd (omega arith) })
-    (λ s. by-same phase 0 (s .resting) (λ d. s .ready (omega arith))) (decides-same _ 0)
+    restated (stands-nowhere still most) (λ s. by-same phase 0 (s .resting) (λ d. s .ready (omega arith))) (decides-same _ 0)
 
 returns : tie.Need-returns
 returns c = nowhere (omega arith) (omega arith)
@@ -36,28 +35,6 @@ returns-3 c =
     (λ d. omega (arith, s .answering (omega arith) .somewhere)))
 
 -- what is left is a message under way, from the receiver to the sender or back
-module _ {phase sender receiver place : ℕ} {r : Bool} where
-  asking-stands : phase ≡ 1 → Decides r (UnderWay receiver sender place) → Decides r (Stands phase sender receiver place)
-  asking-stands e =
-      restated
-      (λ u. record {
-        resting = λ h. absurd (omega arith);
-        asking = λ h. u;
-        ready = λ h. absurd (omega arith);
-        answering = λ h. absurd (omega arith);
-      })
-      (λ s. s .asking e)
-
-  answering-stands : 3 ≤ phase → Decides r (UnderWay sender receiver place) → Decides r (Stands phase sender receiver place)
-  answering-stands l =
-      restated
-      (λ u. record {
-        resting = λ h. absurd (omega arith);
-        asking = λ h. absurd (omega arith);
-        ready = λ h. absurd (omega arith);
-        answering = λ h. u;
-      })
-      (λ s. s .answering l)
 
 abbrev start : tie.Else3 → tie.Start
 start c = c .before .before .before
@@ -67,8 +44,12 @@ routed : (c : tie.Joined4) {r : Bool} →
     Decides r (UnderWay (c .if4 .entry) (c .if4 .target) (given .place)) →
     Decides r (Stands (given .phase) (given .sender) (given .receiver) (given .place))
 routed c d =
-    ⊎-elim (λ w. asking-stands (w .0 .taken) (rw (w .1, w .2) at d))
-    (λ w. answering-stands (omega (arith, w .0 .left)) (rw (w .1, w .2) at d)) (c .if4 .came)
+    ⊎-elim
+    (λ w. let asks = w .0 .taken in restated (stands-asking asks) (λ s. s .asking asks) (rw (w .1, w .2) at d))
+    (λ w.
+    let answers : 3 ≤ start (c .before) .args .phase = omega (arith, w .0 .left) in
+    restated (stands-answering answers) (λ s. s .answering answers) (rw (w .1, w .2) at d))
+    (c .if4 .came)
 
 returns-4 : tie.Need-returns-4
 returns-4 c =

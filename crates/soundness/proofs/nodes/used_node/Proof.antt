@@ -32,4 +32,7 @@ returns-7 c =
     }
 
 pub used-node-spec : {M : Type 1} → statement M
-used-node-spec = tie.close (tie.spec (λ c. says-no (λ u. omega arith)) (λ c. says-no (λ u. omega arith)) (λ c. says-no (λ u. omega arith)) (λ c. search needs) returns-5 returns-6 returns-7)
+used-node-spec =
+    tie.close
+    (tie.spec (λ c. says-no (λ u. omega arith)) (λ c. says-no (λ u. omega arith)) (λ c. says-no (λ u. omega arith))
+    (λ c. search needs) returns-5 returns-6 returns-7)
