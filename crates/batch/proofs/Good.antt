@@ -3,17 +3,19 @@
 use mathlib.Core.Path.{_≡_, refl, sym, ap, _∙_}
 use mathlib.Core.Bool.{Bool, true, false, not, _&&_, false≢true, and-eq-true-iff}
 use Prim.Native.Nat.{ℕ, _≤_, _<_, _^_}
+use native.Mathlib.Omega.{arith}
 use lib.Dec.{leb, ltb}
 use lib.IntN.{ℤ, pos, negsuc}
 use lib.Signed.{leZ, ltZ}
 use lib.ListN.{length}
 use borrow.Author.Tests.{eq-eqb, ne-eqb, le-leb, lt-leb, lt-ltb, ltb-true, ltb-false}
 use Rattle.refusal.specs.declared.Refusal.the-variants.{BatchNumberZero, TemperatureOutOfRange, NameTooLong, BadName}
+use Rattle.refusal.proofs.Number.{in-range}
 use Rattle.batch.specs.declared.BatchRecord.{BatchRecord}
 use Rattle.batch.specs.declared.Verdict.{Verdict}
 use Rattle.batch.specs.declared.Verdict.the-variants.{Good, Refused}
 use Rattle.batch.specs.Good.{coldest, hottest, nameLimit, batchGood, tempGood, nameLengthGood, nameGood, widthsGood}
-use Rattle.batch.specs.Good.{goodRecord, verdictOf, GoodExactly, GoodNumber}
+use Rattle.batch.specs.Good.{goodRecord, verdictOf, verdictNumber, GoodExactly, GoodIsZero, GoodNumber}
 
 -- by cases on a test, each with the test's outcome in hand
 pub by-test : {A : Type 0} (b : Bool) → (b ≡ true → A) → (b ≡ false → A) → A
@@ -124,6 +126,14 @@ accepted-good (Refused x) e = absurd (false≢true e)
 pub good-exactly : GoodExactly
 good-exactly r =
     (λ e. accepted-good (verdictOf r) (sym (goodRecord-accepted r) ∙ e), λ e. goodRecord-accepted r ∙ ap accepted e)
+
+-- no refusal has the number 0
+zero-good : (v : Verdict) → verdictNumber v ≡ 0 → v ≡ Good
+zero-good Good e = refl
+zero-good (Refused x) e = absurd (omega (arith, in-range x))
+
+pub good-is-zero : GoodIsZero
+good-is-zero r = (λ e. ap verdictNumber (good-exactly r .0 e), λ e. good-exactly r .1 (zero-good (verdictOf r) e))
 
 pub good-number : GoodNumber
 good-number r e z = false≢true (sym (batch-zero r z) ∙ good-clauses r e .number)

@@ -10,6 +10,7 @@ use lib.IntN.{ℤ, pos, negℤ}
 use lib.Signed.{leZ}
 use lib.ListN.{length, take, drop}
 use Rattle.refusal.specs.declared.Refusal.the-variants.{BatchNumberZero, TemperatureOutOfRange, NameTooLong, BadName}
+use Rattle.refusal.specs.Number.{numberOf}
 use Rattle.batch.specs.declared.BatchRecord.{BatchRecord}
 use Rattle.batch.specs.declared.Verdict.{Verdict}
 use Rattle.batch.specs.declared.Verdict.the-variants.{Good, Refused}
@@ -31,7 +32,7 @@ abbrev pub lastCharacter : ℕ
 lastCharacter = 0x7E
 
 -- the test f passes at every element
-abbrev pub every : (ℕ → Bool) → List ℕ → Bool
+abbrev pub every : {A : Type 0} → (A → Bool) → List A → Bool
 every f [] = true
 every f (x ∷ xs) = f x && every f xs
 
@@ -91,9 +92,23 @@ verdictOf r =
     (unless (nameGood r && widthsGood r) (Refused BadName)
     Good)))
 
+-- document 01's number for a verdict: that of the refusal, or 0
+abbrev pub verdictNumber : Verdict → ℕ
+verdictNumber Good = 0
+verdictNumber (Refused r) = numberOf r
+
+-- What send asks of a record: today no more than that it is good. It has a name of its own, so that send may come to refuse a good
+-- record, which then stays good where it is carried and in a sound ring.
+abbrev pub sendVerdict : BatchRecord → Verdict
+sendVerdict r = verdictOf r
+
 -- a record is good exactly when no refusal applies
 abbrev pub GoodExactly : Type 0
 GoodExactly = (r : BatchRecord) → (goodRecord r ≡ true) ↔ (verdictOf r ≡ Good)
+
+-- and exactly when its number is 0
+abbrev pub GoodIsZero : Type 0
+GoodIsZero = (r : BatchRecord) → (goodRecord r ≡ true) ↔ (verdictNumber (verdictOf r) ≡ 0)
 
 -- a good record has a batch number
 abbrev pub GoodNumber : Type 0

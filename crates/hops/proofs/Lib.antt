@@ -4,4 +4,4 @@ pub mod Laws
 pub mod Edges
 mod Rule
 mod Sheet
-mod Cases
+mod CaseSplits

@@ -2,7 +2,7 @@
 -- remainder by n. Any n, p and q; only the sheet at the end is limited to 16 nodes. Assumes nothing.
 use Prim.Native.Nat.{ℕ, zero, suc, _+_, _%_, _<_, _≤_}
 use mathlib.Core.Path.{_≡_}
-use mathlib.Core.Bool.{Bool, true, false, cond, _&&_}
+use mathlib.Core.Bool.{Bool, cond, _&&_}
 use lib.Dec.{eqb, ltb, leb}
 
 -- p + h and q leave the same remainder by n: h nodes after p stands q

@@ -5,11 +5,13 @@ use mathlib.Core.Path.{_≡_}
 use mathlib.Core.Logic.{_≢_}
 use mathlib.Core.List.{List, [], _∷_, _++_}
 use native.Mathlib.Omega.{arith}
+use lib.IntN.{ℤ, pos, negsuc, natAbs}
+use lib.Signed.{mag}
 use lib.ListN.{length, getD, length-append, List·getD-append}
 use lib.Seq.{getD-at}
 use borrow.Author.Tests.{lt-ltb, le-ltb}
 use Rattle.network.proofs.Cases.{by-less}
-use Rattle.listing.specs.Digits.{digit, digits, decimal, readOn, ReadsBack, OnlyDigits, NoLeadingZero}
+use Rattle.listing.specs.Digits.{digit, digits, decimal, signed, readOn, ReadsBack, OnlyDigits, NoLeadingZero}
 
 -- enough fuel is enough
 same-digits : (f g n : ℕ) → n < f → n < g → digits f n ≡ digits g n
@@ -84,3 +86,12 @@ no-leading-zero = (
 -- 32 bits have at most ten digits
 pub ten-digits : (n : ℕ) → n < 2 ^ 32 → length (decimal n) ≤ 10
 ten-digits n h = length-decimal 9 n (omega arith)
+
+-- the digits after the sign are those of the distance from 0
+pub signed-below : (z : ℤ) → z ≡ negsuc (mag z) → signed z ≡ 0x2D ∷ decimal (natAbs z)
+unfolding signed
+signed-below z e = rw e
+
+pub signed-above : (z : ℤ) → z ≡ pos (mag z) → signed z ≡ decimal (natAbs z)
+unfolding signed
+signed-above z e = rw e

@@ -1,9 +1,9 @@
--- The lines of document 01's listing are what the definitions say, by computation. Assumes nothing.
+-- The lines of the report that document 01 shows are what the definitions say, by computation. Assumes nothing.
 use mathlib.Core.Path.{refl}
 use Rattle.listing.specs.Digits.{digits, decimal, hex2, signed}
 use Rattle.listing.specs.Line.{recordFields, lineOf, endOf}
-use Rattle.listing.specs.Examples.{Listed}
+use Rattle.listing.specs.Examples.{AsShown}
 
-pub listed : Listed
+pub as-shown : AsShown
 unfolding digits decimal hex2 signed recordFields lineOf endOf
-listed = refl
+as-shown = refl

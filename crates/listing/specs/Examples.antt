@@ -1,12 +1,12 @@
--- Lines of document 01's listing, and one with a temperature below 0 and no name. Each row has the bytes that a line is to be, and the
--- line as it is defined. Assumes nothing.
+-- Lines of the report that document 01 shows, and one with a temperature below 0 and no name. Each row has the bytes that a line is to
+-- be, and the line as it is defined. Assumes nothing.
 use Prim.Native.Nat.{ℕ}
 use mathlib.Core.Path.{_≡_}
 use mathlib.Core.List.{List, [], _∷_, _++_, map}
-use lib.IntN.{ℤ, pos, negℤ}
+use lib.IntN.{pos, negℤ}
 use lib.ListN.{replicate}
 use Rattle.refusal.specs.declared.Refusal.the-variants.{BufferEmpty}
-use Rattle.batch.specs.declared.BatchRecord.{BatchRecord}
+use Rattle.batch.specs.Good.{recordOf}
 use Rattle.batch.specs.Blank.{noRecord}
 use Rattle.network.specs.declared.Answer.the-variants.{Delivered, Refused}
 use Rattle.listing.specs.Line.{lineOf, endOf}
@@ -18,16 +18,6 @@ pub record Row : Type 0 where
 abbrev row : List ℕ → List ℕ → Row
 row bytes line = record { bytes = bytes; line = line }
 
-abbrev batch : ℕ → ℕ → ℤ → ℕ → List ℕ → BatchRecord
-batch number vessel temperature length name =
-    record {
-      batch = record { 0 = number };
-      vessel = vessel;
-      temperature = temperature;
-      «name_length» = length;
-      name = name;
-    }
-
 -- `11 23 0 delivered 0 7 3 612 2 A1`
 abbrev deliveryRow : Row
 deliveryRow =
@@ -36,7 +26,7 @@ deliveryRow =
     ++ (0x20 ∷ 0x64 ∷ 0x65 ∷ 0x6C ∷ 0x69 ∷ 0x76 ∷ 0x65 ∷ 0x72 ∷ 0x65 ∷ 0x64 ∷ [])
     ++ (0x20 ∷ 0x30 ∷ 0x20 ∷ 0x37 ∷ 0x20 ∷ 0x33 ∷ 0x20 ∷ 0x36 ∷ 0x31 ∷ 0x32 ∷ 0x20 ∷ 0x32 ∷ 0x20 ∷ 0x41 ∷ 0x31 ∷ 0x0A ∷ []))
     (lineOf 11 0x23
-    (record { answer = Delivered (record { 0 = 0 }); delivered = batch 7 3 (pos 612) 2 (0x41 ∷ 0x31 ∷ replicate 30 0) }))
+    (record { answer = Delivered (record { 0 = 0 }); delivered = recordOf 7 3 (pos 612) 2 (0x41 ∷ 0x31 ∷ replicate 30 0) }))
 
 -- `12 23 19`
 abbrev refusalRow : Row
@@ -56,11 +46,11 @@ coldRow =
     ++ (0x20 ∷ 0x64 ∷ 0x65 ∷ 0x6C ∷ 0x69 ∷ 0x76 ∷ 0x65 ∷ 0x72 ∷ 0x65 ∷ 0x64 ∷ [])
     ++ (0x20 ∷ 0x36 ∷ 0x33 ∷ 0x20 ∷ 0x31 ∷ 0x20 ∷ 0x32 ∷ 0x35 ∷ 0x35 ∷ 0x20 ∷ 0x2D ∷ 0x34 ∷ 0x30 ∷ 0x30 ∷ 0x20 ∷ 0x30 ∷ 0x0A ∷ []))
     (lineOf 5 0xAF
-    (record { answer = Delivered (record { 0 = 63 }); delivered = batch 1 255 (negℤ (pos 400)) 0 (replicate 32 0) }))
+    (record { answer = Delivered (record { 0 = 63 }); delivered = recordOf 1 255 (negℤ (pos 400)) 0 (replicate 32 0) }))
 
 -- every row's line has the row's bytes
 abbrev rows : List Row
 rows = deliveryRow ∷ refusalRow ∷ endRow ∷ coldRow ∷ []
 
-abbrev pub Listed : Type 0
-Listed = map (λ r. r .line) rows ≡ map (λ r. r .bytes) rows
+abbrev pub AsShown : Type 0
+AsShown = map (λ r. r .line) rows ≡ map (λ r. r .bytes) rows

@@ -1,12 +1,12 @@
 -- The lines of the report, byte by byte, as document 01 has them under "Command tape". Assumes nothing.
 use Prim.Native.Nat.{ℕ}
 use mathlib.Core.List.{List, [], _∷_, _++_}
+use mathlib.Core.Option.{Option, none, some}
 use lib.ListN.{take}
 use Rattle.batch.specs.declared.BatchRecord.{BatchRecord}
-use Rattle.network.specs.declared.Answer.{Answer}
-use Rattle.network.specs.declared.Answer.the-variants.{Done, Delivered, Hops, Waiting, Refused}
 use Rattle.network.specs.declared.Reply.{Reply}
-use Rattle.network.specs.Answers.{numberIn}
+use Rattle.network.specs.Calls.{Delivery}
+use Rattle.network.specs.Answers.{numberIn, deliveredIn}
 use Rattle.listing.specs.Digits.{decimal, hex2, signed}
 
 -- room for any line: none is longer
@@ -51,13 +51,10 @@ recordFields channel x =
     ++ field (x .«name_length»)
     ++ nameField (take (x .«name_length») (x .name))
 
--- what a delivery has after the refusal's number; any other answer has nothing
-abbrev pub deliveryOf : Answer → BatchRecord → List ℕ
-deliveryOf Done x = []
-deliveryOf (Delivered k) x = deliveredBytes ++ recordFields (k .0) x
-deliveryOf (Hops h) x = []
-deliveryOf (Waiting w) x = []
-deliveryOf (Refused r) x = []
+-- what a delivery has after the refusal's number; where there is none, nothing
+abbrev pub deliveryBytes : Option Delivery → List ℕ
+deliveryBytes none = []
+deliveryBytes (some d) = deliveredBytes ++ recordFields (d .channel) (d .«record»)
 
 -- a command's line: its number, the command byte, the refusal or 0, the delivery
 unfoldable pub lineOf : ℕ → ℕ → Reply → List ℕ
@@ -65,7 +62,7 @@ lineOf number command reply =
     decimal number
     ++ (space ∷ hex2 command)
     ++ field (numberIn (reply .answer))
-    ++ deliveryOf (reply .answer) (reply .delivered)
+    ++ deliveryBytes (deliveredIn reply)
     ++ newline ∷ []
 
 -- the last line: `end`, accepted, refused

@@ -10,9 +10,9 @@ ghost use mathlib.Core.List.{_++_};
 ghost use mathlib.Core.Path.{_≡_};
 ghost use Prim.Native.Nat.{_+_, _≤_};
 ghost use lib.ListN.{length};
-ghost use Rattle.network.specs.Answers.{numberIn};
+ghost use Rattle.network.specs.Answers.{numberIn, deliveredIn};
 ghost use Rattle.listing.specs.Appends.{Appends};
-ghost use Rattle.listing.specs.Line.{lineRoom, deliveredBytes, recordFields, deliveryOf, lineOf, endOf, tooLong};
+ghost use Rattle.listing.specs.Line.{lineRoom, deliveredBytes, recordFields, deliveryBytes, lineOf, endOf, tooLong};
 ghost use Rattle.listing.specs.Put.{putAnswer, put};
 
 // Room for any line.
@@ -55,11 +55,13 @@ fn push_record(text: &mut [u8], at: usize, channel: ChannelNo, delivered: BatchR
     text::push_name(text, measured, name_length, cells)
 }
 
-// The delivery, or nothing where the answer is another.
-fn push_delivery(text: &mut [u8], at: usize, answer: Answer, delivered: BatchRecord) -> usize
+// The delivery in a reply, or nothing where it has none.
+fn push_delivery(text: &mut [u8], at: usize, reply: Reply) -> usize
     requires { ⌜ at + 99 ≤ length (now text) ⌝ }
-    ensures { λ r. ⌜ Appends (now (text .entry)) (now (text .exit)) at r (deliveryOf answer delivered) 99 ⌝ }
+    ensures { λ r. ⌜ Appends (now (text .entry)) (now (text .exit)) at r (deliveryBytes (deliveredIn reply)) 99 ⌝ }
 {
+    let answer = reply.answer;
+    let delivered = reply.delivered;
     match answer {
         Answer::Delivered(channel) => push_record(text, at, channel, delivered),
         _ => at,
@@ -72,12 +74,11 @@ fn push_line(text: &mut [u8], number: u32, command: u8, reply: Reply) -> usize
     ensures { λ r. ⌜ Appends (now (text .entry)) (now (text .exit)) 0 r (lineOf number command reply) lineRoom ⌝ }
 {
     let answer = reply.answer;
-    let delivered = reply.delivered;
     let refusal = refusal_in(answer);
     let numbered = text::push_decimal(text, 0, number);
     let named = text::push_hex(text, numbered, command);
     let answered = text::push_field(text, named, refusal as u32);
-    let told = push_delivery(text, answered, answer, delivered);
+    let told = push_delivery(text, answered, reply);
     text::push(text, told, NEWLINE)
 }
 

@@ -1,88 +1,124 @@
--- A loop that goes over all its places and counts the wrong ones, or joins its cells by "or": what it has found is 0 exactly when the
--- statement holds of every place passed. Assumes nothing.
-use Prim.Native.Nat.{ℕ, zero, suc, _+_, _≤_, _<_}
+-- The loops of the test. Each goes over all its places and keeps one number: what it has found wrong, which is 0 exactly when the
+-- statement holds of every place passed (`Judging`), or what the places passed add up to (`Summing`). For each: the invariant, that it
+-- holds at the start, that a turn keeps it, and what it says at the end. Assumes nothing.
+use Prim.Native.Nat.{ℕ, _+_, _*_, _≤_, _<_}
 use mathlib.Core.Path.{_≡_, refl}
+use mathlib.Core.Bool.{Bool, true, false, not}
+use mathlib.Core.List.{List}
+use mathlib.Core.Logic.{_⊎_, ⊎-elim}
 use native.Mathlib.Nat.{not-suc-le-zero}
 use native.Mathlib.Numerals.{add-one}
 use native.Mathlib.Omega.{arith}
-use lib.Dec.{eqb}
+use lib.Dec.{eqb, ltb}
+use lib.ListN.{length, getD}
 use borrow.Author.Tests.{eqb-true, eq-eqb}
+use Rattle.batch.proofs.Places.{CountsUp}
 use Rattle.network.specs.Counting.{sum}
 use Rattle.network.proofs.Cases.{by-same}
 use Rattle.soundness.specs.Decides.{Decides}
+use Rattle.soundness.proofs.Decides.{refused, granted}
 
-pub record Found (P : ℕ → Type 0) (found i : ℕ) : Type 0 where
+-- P judged at each place below n
+
+pub record Judging (P : ℕ → Type 0) (n found i : ℕ) : Type 0 where
+  pub within : i ≤ n
   pub right : found ≡ 0 → (j : ℕ) → j < i → P j
   pub none : ((j : ℕ) → j < i → P j) → found ≡ 0
 
-module _ {P : ℕ → Type 0} where
-  pub found-start : Found P 0 0
-  found-start = record { right = λ e j l. absurd (not-suc-le-zero l); none = λ all. refl }
+module _ {P : ℕ → Type 0} {n : ℕ} where
+  pub judging-start : Judging P n 0 0
+  judging-start = record { within = omega arith; right = λ e j l. absurd (not-suc-le-zero l); none = λ all. refl }
 
-  -- a turn, by whether the place is right
-  pub found-turn : {found after i : ℕ} → Found P found i → (after ≡ 0 → (found ≡ 0) × P i) → (found ≡ 0 → P i → after ≡ 0) →
-      Found P after (i + 1)
-  found-turn {found} {after} {i} before is-right is-none =
+  -- after the turn nothing is found exactly when nothing was and the place is right
+  pub judging-turn : {found after i : ℕ} → Judging P n found i → i < n → (after ≡ 0 → (found ≡ 0) × P i) →
+      (found ≡ 0 → P i → after ≡ 0) → Judging P n after (i + 1)
+  judging-turn {i = i} before inside is-right is-none =
       record {
+        within = omega arith;
         right = λ e j l.
             by-same j i (λ same. rw same (is-right e .1)) (λ other. before .right (is-right e .0) j (omega arith));
         none = λ all. is-none (before .none (λ j l. all j (omega arith))) (all i (omega arith));
       }
 
-  -- the end
-  pub found-all : (n : ℕ) {found i : ℕ} → Found P found i → n ≡ i → Decides (eqb found 0) ((j : ℕ) → j < n → P j)
-  found-all n {found} whole end =
+  pub judging-end : {found i : ℕ} → Judging P n found i → n ≤ i → Decides (eqb found 0) ((j : ℕ) → j < n → P j)
+  judging-end {found} {i} whole past =
+      let end : n ≡ i = omega (arith, whole .within) in
       rw end (record { holds = λ e. whole .right (eqb-true found 0 e); passes = λ all. eq-eqb found 0 (whole .none all) })
 
--- the wrong places counted, below n
+-- the wrong places are counted, each judged by a call
+
 pub record Counting (P : ℕ → Type 0) (n wrong i : ℕ) : Type 0 where
-  pub within : i ≤ n
+  pub judged : Judging P n wrong i
   pub few : wrong ≤ i
-  pub found : Found P wrong i
 
 module _ {P : ℕ → Type 0} {n : ℕ} where
   pub counting-start : Counting P n 0 0
-  counting-start = record { within = omega arith; few = omega arith; found = found-start }
+  counting-start = record { judged = judging-start; few = omega arith }
 
-  module _ {wrong i : ℕ} (before : Counting P n wrong i) (inside : i < n) where
-    pub counting-right : P i → Counting P n wrong (i + 1)
-    counting-right here =
-        record { within = omega arith; few = omega arith; found = found-turn (before .found) (λ e. (e, here)) (λ e p. e) }
-
-    pub counting-wrong : (P i → ⊥) → Counting P n (wrong + 1) (i + 1)
-    counting-wrong wrong-here =
-        record {
-          within = omega arith;
-          few = omega arith;
-          found = found-turn (before .found) (λ e. absurd (omega arith)) (λ e p. absurd (wrong-here p));
-        }
+  -- the call answered no, and one more is wrong, or yes
+  pub counting-turn : {wrong after i : ℕ} {r : Bool} {No Yes : Type 0} → Counting P n wrong i → i < n → Decides r (P i) → No ⊎ Yes →
+      (No → (not r ≡ true) × (after ≡ wrong + 1)) → (Yes → (not r ≡ false) × (after ≡ wrong)) → Counting P n after (i + 1)
+  counting-turn before inside call came on-no on-yes =
+      ⊎-elim
+      (λ w. rw (on-no w .1)
+      (record {
+        judged = judging-turn (before .judged) inside (λ e. absurd (omega arith)) (λ e p. absurd (refused call (on-no w .0) p));
+        few = omega (arith, before .few);
+      }))
+      (λ w. rw (on-yes w .1)
+      (record {
+        judged = judging-turn (before .judged) inside (λ e. (e, granted call (on-yes w .0))) (λ e p. e);
+        few = omega (arith, before .few);
+      }))
+      came
 
   pub counting-end : {wrong i : ℕ} → Counting P n wrong i → n ≤ i → Decides (eqb wrong 0) ((j : ℕ) → j < n → P j)
-  counting-end whole end = found-all n (whole .found) (omega arith)
+  counting-end whole past = judging-end (whole .judged) past
 
--- a loop that adds up, at its start and in a turn
-pub sum-start : (f : ℕ → ℕ) → sum 0 f ≡ 0
-unfolding sum
-sum-start f = refl
+-- the same where what is asked of a place goes by whether it is in use, one of the first `count`; its number is read off the table of places
 
-pub sum-turn : {total : ℕ} (f : ℕ → ℕ) (i : ℕ) → total ≡ sum i f → total + f i ≡ sum (i + 1) f
-unfolding sum
-sum-turn f i e = rw (add-one, e)
+pub record CountingUsed (P : Bool → ℕ → Type 0) (count n : ℕ) (places : List ℕ) (wrong i : ℕ) : Type 0 where
+  pub table : CountsUp places
+  pub counted : Counting (λ k. P (ltb k count) k) n wrong i
 
--- a first part of a sum, and one term beyond it, are at most the whole; where the rest is nothing it is the whole
+module _ {P : Bool → ℕ → Type 0} {count n : ℕ} {places : List ℕ} where
+  pub used-start : CountsUp places → CountingUsed P count n places 0 0
+  used-start up = record { table = up; counted = counting-start }
 
-pub sum-most : (m n : ℕ) (f : ℕ → ℕ) → n ≤ m → sum n f ≤ sum m f
-unfolding sum
-sum-most zero n f l = let e : n ≡ 0 = omega arith in rw e (omega arith)
-sum-most (suc m) n f l = by-same n (suc m) (λ e. rw e (omega arith)) (λ d. omega (arith, sum-most m n f (omega arith)))
+  pub used-turn : {wrong after i : ℕ} {r : Bool} {No Yes : Type 0} → CountingUsed P count n places wrong i → i < n → i < length places →
+      Decides r (P (ltb (getD places i 0) count) i) → No ⊎ Yes → (No → (not r ≡ true) × (after ≡ wrong + 1)) →
+      (Yes → (not r ≡ false) × (after ≡ wrong)) → CountingUsed P count n places after (i + 1)
+  used-turn {i = i} before inside listed call came on-no on-yes =
+      record {
+        table = before .table;
+        counted = counting-turn (before .counted) inside (rw (before .table .at i listed) at call) came on-no on-yes;
+      }
 
-pub sum-rest : (m n i : ℕ) (f : ℕ → ℕ) → n ≤ i → i < m → sum n f + f i ≤ sum m f
-unfolding sum
-sum-rest m n i f l inside = omega (arith, sum-most i n f l, sum-most m (suc i) f inside)
+  pub used-end : {wrong i : ℕ} → CountingUsed P count n places wrong i → n ≤ i →
+      Decides (eqb wrong 0) ((k : ℕ) → k < n → P (ltb k count) k)
+  used-end whole past = counting-end (whole .counted) past
 
-pub sum-beyond : (m n : ℕ) (f : ℕ → ℕ) → n ≤ m → ((p : ℕ) → n ≤ p → p < m → f p ≡ 0) → sum m f ≡ sum n f
-unfolding sum
-sum-beyond zero n f l none = let e : n ≡ 0 = omega arith in rw e
-sum-beyond (suc m) n f l none =
-    by-same n (suc m) (λ e. rw e)
-    (λ d. omega (arith, sum-beyond m n f (omega arith) (λ p a b. none p a (omega arith)), none m (omega arith) (omega arith)))
+-- f added up over the places below n, each at most `most`
+
+pub record Summing (f : ℕ → ℕ) (n most total i : ℕ) : Type 0 where
+  pub within : i ≤ n
+  pub few : total ≤ most * i
+  pub same : total ≡ sum i f
+
+module _ {f : ℕ → ℕ} {n most : ℕ} where
+  pub summing-start : Summing f n most 0 0
+  unfolding sum
+  summing-start = record { within = omega arith; few = omega arith; same = refl }
+
+  pub summing-turn : {total after i : ℕ} → Summing f n most total i → i < n → f i ≤ most → after ≡ total + f i →
+      Summing f n most after (i + 1)
+  unfolding sum
+  summing-turn {total} {after} {i} before inside small e =
+      record {
+        within = omega arith;
+        few = let more : most * (i + 1) ≡ most * i + most = omega arith in omega (arith, before .few);
+        same = rw (add-one i, e, before .same);
+      }
+
+  pub summing-end : {total i : ℕ} → Summing f n most total i → n ≤ i → total ≡ sum n f
+  summing-end {i = i} whole past = let end : i ≡ n = omega (arith, whole .within) in rw end at (whole .same)

@@ -2,6 +2,8 @@
 -- as it should be (`hold-is`). Assumes nothing.
 use Prim.Native.Nat.{ℕ, _≤_, _<_}
 use mathlib.Core.Path.{_≡_, sym, _∙_}
+use mathlib.Core.Bool.{Bool}
+use lib.Dec.{eqb}
 use lib.ListN.{length, getD}
 use Rattle.wire.specs.Record.{recordLength}
 use Rattle.network.specs.declared.Ring.{Ring}
@@ -11,9 +13,18 @@ use Rattle.network.specs.Network.{Network, nodeCount, channelCount, slotCount, 
 use Rattle.network.specs.Sound.{lastCount}
 use Rattle.network.specs.Layout.{nodeRoom, channelRoom, rowLength, viewNode, viewChannel, view, holdHead, hold}
 use Rattle.network.proofs.Rows.{length-tabulate, getD-tabulate, tabulate-is, rows-is}
-use Rattle.network.proofs.Counting.{sum-same}
+use Rattle.network.proofs.Counting.{sum-same, sum-beyond}
 use Rattle.network.proofs.Memory.{Held, no-node}
-use Rattle.soundness.proofs.Loops.{sum-beyond}
+
+-- the counts in the head, and whether the ring has started
+abbrev pub nodes : Ring → ℕ
+nodes ring = ring .head .«node_count»
+
+abbrev pub channels : Ring → ℕ
+channels ring = ring .head .«channel_count»
+
+abbrev pub begun : Ring → Bool
+begun ring = eqb (ring .head .started) 1
 
 -- what the types say of the head of any ring
 pub record Whole (head : Head) : Type 0 where

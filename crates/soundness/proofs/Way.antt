@@ -2,7 +2,7 @@
 -- the channel's phase it stands nowhere or on the way from its entry to its target. Assumes nothing.
 use Prim.Native.Nat.{ℕ, _≤_, _<_, min}
 use mathlib.Core.Path.{_≡_, refl}
-use mathlib.Core.Logic.{⊎-elim, inl, inr}
+use mathlib.Core.Logic.{_≢_, ⊎-elim, inl, inr}
 use native.Mathlib.Omega.{arith}
 use borrow.Author.Tests.{lt-ltb, le-ltb}
 use Rattle.hops.specs.Hops.{hops}
@@ -46,6 +46,29 @@ ends-below s n sends receives asking = (receives, sends)
 ends-below s n sends receives ready = (sends, receives)
 ends-below s n sends receives (answering x) = (sends, receives)
 
+module _ {code sender receiver place : ℕ} where
+  pub stands-nowhere : code ≢ 1 → code < 3 → place ≡ 0 → Stands code sender receiver place
+  stands-nowhere still most e =
+      record { resting = λ h. e; asking = λ h. absurd (still h); ready = λ h. e; answering = λ h. absurd (omega arith) }
+
+  pub stands-asking : code ≡ 1 → UnderWay receiver sender place → Stands code sender receiver place
+  stands-asking e way =
+      record {
+        resting = λ h. absurd (omega arith);
+        asking = λ h. way;
+        ready = λ h. absurd (omega arith);
+        answering = λ h. absurd (omega arith);
+      }
+
+  pub stands-answering : 3 ≤ code → UnderWay sender receiver place → Stands code sender receiver place
+  stands-answering l way =
+      record {
+        resting = λ h. absurd (omega arith);
+        asking = λ h. absurd (omega arith);
+        ready = λ h. absurd (omega arith);
+        answering = λ h. way;
+      }
+
 module _ (s : ChannelState) (place : ℕ) where
   abbrev pub StandsBy : Phase → Type 0
   StandsBy f = Stands (phaseCode f) (s .sender) (s .receiver) place
@@ -66,11 +89,7 @@ module _ (s : ChannelState) (place : ℕ) where
   stands-way (answering x) h l = h .answering (omega arith)
 
   pub way-stands : (f : Phase) → min 1 place ≡ one (moving f) → (1 ≤ place → Way f) → StandsBy f
-  way-stands resting e way =
-      record { resting = λ h. omega arith; asking = λ h. absurd (omega arith); ready = λ h. omega arith; answering = λ h. absurd (omega arith) }
-  way-stands asking e way =
-      record { resting = λ h. absurd (omega arith); asking = λ h. way (omega arith); ready = λ h. absurd (omega arith); answering = λ h. absurd (omega arith) }
-  way-stands ready e way =
-      record { resting = λ h. omega arith; asking = λ h. absurd (omega arith); ready = λ h. omega arith; answering = λ h. absurd (omega arith) }
-  way-stands (answering x) e way =
-      record { resting = λ h. absurd (omega arith); asking = λ h. absurd (omega arith); ready = λ h. absurd (omega arith); answering = λ h. way (omega arith) }
+  way-stands resting e way = stands-nowhere (omega arith) (omega arith) (omega arith)
+  way-stands asking e way = stands-asking refl (way (omega arith))
+  way-stands ready e way = stands-nowhere (omega arith) (omega arith) (omega arith)
+  way-stands (answering x) e way = stands-answering (omega arith) (way (omega arith))

@@ -1,5 +1,5 @@
 -- What the test for a sound ring decides, over the arrays of a ring, part by part as the code has it. `Fits` is the whole; it holds of
--- exactly the sound rings of the definitions (proofs/Accepted one way, proofs/Passes the other). Assumes nothing.
+-- exactly the sound rings of the definitions (proofs/FitsSound one way, proofs/SoundFits the other). Assumes nothing.
 use Prim.Native.Nat.{ℕ, _+_, _*_, _<_, _≤_}
 use mathlib.Core.Path.{_≡_}
 use mathlib.Core.Logic.{_≢_}
@@ -13,7 +13,7 @@ use Rattle.wire.specs.Record.{recordLength, recordBytes, recordIn}
 use Rattle.network.specs.declared.Ring.{Ring}
 use Rattle.network.specs.Counting.{one, sum}
 use Rattle.network.specs.Layout.{ringLimits, nodeRoom, channelRoom, rowLength, cellRoom, recordRoom, row, padded}
-use Rattle.soundness.specs.Marks.{inBuffer, inLine, markAll}
+use Rattle.soundness.specs.RowPass.{inBuffer, inLine, markAll}
 
 -- the counts are in range, and the byte of no use is zero
 pub record CountsFit (started n c spare : ℕ) : Type 0 where

@@ -1,4 +1,4 @@
 -- What the test for a sound ring decides.
 pub mod Decides
-pub mod Marks
+pub mod RowPass
 pub mod Fits

@@ -85,9 +85,9 @@ pub fn is_sound(
 ) -> bool
     ensures { λ r. ⌜ r ≡ soundRing (ringIn head (now (slots .entry)) (now (lines .entry)) (now (offers .entry)) (now (carried .entry))) ⌝ }
 {
-    let node_count = head.node_count;
-    let channel_count = head.channel_count;
-    if !counts_fit(head.started, node_count, channel_count, head.spare) {
+    let n = head.node_count;
+    let c = head.channel_count;
+    if !counts_fit(head.started, n, c, head.spare) {
         return false;
     }
     let started = head.started == 1;
@@ -95,30 +95,22 @@ pub fn is_sound(
     let used = head.used;
     let waiting = head.waiting;
     let marks = head.marks;
-    if !nodes::nodes_fit(started, node_count, &capacity, &used, &waiting, &marks) {
+    if !nodes::nodes_fit(started, n, &capacity, &used, &waiting, &marks) {
         return false;
     }
     let senders = head.senders;
     let receivers = head.receivers;
     let phases = head.phases;
     let offered = head.offered;
-    if !channels::channels_fit(
-        started,
-        node_count,
-        channel_count,
-        &senders,
-        &receivers,
-        &phases,
-        &offered,
-    ) {
+    if !channels::channels_fit(started, n, c, &senders, &receivers, &phases, &offered) {
         return false;
     }
-    if !records::records_fit(channel_count, &phases, &offered, offers, carried) {
+    if !records::records_fit(c, &phases, &offered, offers, carried) {
         return false;
     }
     if !messages::messages_fit(
-        node_count,
-        channel_count,
+        n,
+        c,
         &used,
         &waiting,
         &phases,
@@ -129,11 +121,5 @@ pub fn is_sound(
     ) {
         return false;
     }
-    start_fits(
-        head.started,
-        node_count,
-        channel_count,
-        head.deliveries,
-        capacity,
-    )
+    start_fits(head.started, n, c, head.deliveries, capacity)
 }

@@ -6,7 +6,7 @@ ghost use mathlib.Core.Path.{_≡_};
 ghost use Prim.Native.Nat.{_+_, _<_, _≤_};
 ghost use lib.ListN.{length};
 ghost use Rattle.network.specs.Layout.{nodeRoom, channelRoom, rowLength, cellRoom};
-ghost use Rattle.soundness.specs.Marks.{mark, cellsInUse, markRow, markRows, Marked};
+ghost use Rattle.soundness.specs.RowPass.{mark, cellsInUse, markRow, markRows, Marked};
 
 // The used cells of a row: each names a channel in use whose message was met nowhere else, and gets the place.
 fn mark_cells(channel_count: u8, place: u8, cells: &[u8], stands: &mut [u8]) -> bool

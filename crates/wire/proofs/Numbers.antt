@@ -10,7 +10,7 @@ use lib.Arith.{mod-mul, digits-div, digits-mod}
 use lib.Dec.{ltb, lit<}
 use lib.IntN.{ℤ, pos, negsuc}
 use lib.Signed.{mag}
-use lib.ListN.{length, getD, take, drop, length-drop}
+use lib.ListN.{length, getD, drop, length-drop}
 use lib.Seq.{take-add, drop-drop, drop-cons, length-take-le}
 use borrow.Author.Tests.{lt-ltb, le-ltb}
 use Rattle.wire.specs.Bytes.{little, number, part, numberAt, twos, signed, Bytes, Ends}
@@ -69,6 +69,11 @@ part-length at n bytes h = length-take-le n (drop at bytes) (rw length-drop (ome
 pub number-parts : (m n at : ℕ) (bytes : List ℕ) → at + m ≤ length bytes
     → numberAt at (m + n) bytes ≡ numberAt at m bytes + 256 ^ m * numberAt (at + m) n bytes
 number-parts m n at bytes h = rw (take-add, number-append, part-length at m bytes h, drop-drop)
+
+-- a number that was read in two parts
+pub number-joined : (m n at : ℕ) (bytes : List ℕ) {low high : ℕ} → low ≡ numberAt at m bytes → high ≡ numberAt (at + m) n bytes
+    → at + m ≤ length bytes → low + 256 ^ m * high ≡ numberAt at (m + n) bytes
+number-joined m n at bytes low high h = rw (low, high, number-parts m n at bytes h)
 
 -- two's complement, there and back
 pub signed-twos : (z : ℤ) → mag z < 32768 → signed (twos z) ≡ z

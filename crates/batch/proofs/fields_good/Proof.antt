@@ -23,4 +23,5 @@ returns-2 : tie.Need-returns-2
 returns-2 c = sym (goodRecord-accepted _ ∙ ap accepted (sym (judged (c .before .before)) ∙ c .enum-told2 .given .1))
 
 pub fields-good-spec : {M : Type 1} → statement M
-fields-good-spec = tie.close (tie.spec (λ c κs. search needs) (λ c. search needs) (λ c. search needs) returns returns-2)
+fields-good-spec =
+    tie.close (tie.spec (λ c κs. search needs) (λ c. search needs) (λ c. search needs) returns returns-2)

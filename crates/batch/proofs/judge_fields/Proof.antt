@@ -6,7 +6,6 @@ use lib.Signed.{ltZ}
 use mir.Syntax.{w16}
 use mir.Val.{toZ, ofZ}
 use mir.Facts.{toZ-ofZ}
-use borrow.Author.Needs.{needs}
 use Rattle.batch.specs.declared.BatchRecord.{BatchRecord}
 use Rattle.batch.specs.Good.{coldest, recordOf, batchGood, tempGood, nameLengthGood, nameGood, widthsGood}
 use Rattle.batch.proofs.Good as good
@@ -18,6 +17,10 @@ abbrev given : tie.After-shared-slice-known → BatchRecord
 given c =
     let a = c .before .args in
     recordOf (a .number) (a .vessel) (a .temperature) (a .name-length) (a .name .now)
+
+-- the start, from where the length has passed
+abbrev begun : tie.Else4 → tie.After-shared-slice-known
+begun c = c .before .before .before .before
 
 -- a signed number holds bits, and what is read back from them is the number
 number-held : (c : tie.After-shared-slice-known) → toZ w16 (ofZ w16 (given c .temperature)) ≡ given c .temperature
@@ -37,7 +40,7 @@ temp-good : (c : tie.Else3) → tempGood (given (c .before .before .before)) ≡
 temp-good c =
     good.temp-by-tests _ (not-cold (c .before)) (rw (number-held (c .before .before .before)) at (c .if3 .left))
 
-length-good : (c : tie.Else4) → nameLengthGood (given (c .before .before .before .before)) ≡ true
+length-good : (c : tie.Else4) → nameLengthGood (given (begun c)) ≡ true
 length-good c = good.name-short _ (c .if4 .left)
 
 returns : tie.Need-returns
@@ -58,9 +61,9 @@ returns-4 c =
     sym (good.verdict-length _ (batch-good (c .before .before .before)) (temp-good (c .before)) (good.name-long _ (c .if4 .taken)))
 
 name-cells-good-requires : tie.Need-name-cells-good-requires
-name-cells-good-requires c κs = c .before .before .before .before .before .pre
+name-cells-good-requires c κs = begun c .before .pre
 
-named : (c : tie.After-name-cells-good) → c .name-cells-good .result ≡ nameGood (given (c .before .before .before .before .before))
+named : (c : tie.After-name-cells-good) → c .name-cells-good .result ≡ nameGood (given (begun (c .before)))
 unfolding nameGood
 named c = c .name-cells-good .ensures
 
@@ -82,5 +85,4 @@ returns-6 c =
 
 pub judge-fields-spec : {M : Type 1} → statement M
 judge-fields-spec =
-    tie.close
-    (tie.spec returns returns-2 returns-3 returns-4 name-cells-good-requires returns-5 returns-6)
+    tie.close (tie.spec returns returns-2 returns-3 returns-4 name-cells-good-requires returns-5 returns-6)

@@ -31,12 +31,6 @@ abbrev μ-loop : tie.MeasureT-loop
 loop-holds : tie.Need-loop-holds Inv-loop μ-loop
 loop-holds c = (omega arith, omega arith, counted _ refl, goodFrom-start _ _)
 
-shared-slice-read-cell : tie.Need-shared-slice-read-cell Inv-loop μ-loop
-shared-slice-read-cell c = omega arith
-
-array-read-cell-good : tie.Need-array-read-cell-good Inv-loop μ-loop
-array-read-cell-good c = omega arith
-
 -- the call judges cell i by its place
 module _ (c : tie.After-cell-good Inv-loop μ-loop) where
   abbrev at-loop : tie.At-loop Inv-loop μ-loop
@@ -70,15 +64,6 @@ module _ (c : tie.After-cell-good Inv-loop μ-loop) where
       (goodFrom-more n cells i (omega arith)
       ∙ ap (λ here. here && later) (sym judged))
 
-add-wrong : tie.Need-add-wrong Inv-loop μ-loop
-add-wrong c = omega arith
-
-add-i : tie.Need-add-i Inv-loop μ-loop
-add-i c = omega arith
-
-loop-less : tie.Need-loop-less Inv-loop μ-loop
-loop-less c = omega arith
-
 loop-again : tie.Need-loop-again Inv-loop μ-loop
 loop-again c =
     let wrong = at-loop (c .before) .loop .wrong in
@@ -110,15 +95,5 @@ returns c =
 pub name-cells-good-spec : {M : Type 1} → statement M
 name-cells-good-spec =
     tie.close
-    (tie.spec
-    Inv-loop
-    μ-loop
-    loop-holds
-    shared-slice-read-cell
-    array-read-cell-good
-    (λ c κs. search needs)
-    add-wrong
-    add-i
-    loop-less
-    loop-again
-    returns)
+    (tie.spec Inv-loop μ-loop loop-holds (λ c. omega arith) (λ c. omega arith) (λ c κs. search needs)
+    (λ c. omega arith) (λ c. omega arith) (λ c. omega arith) loop-again returns)

@@ -8,7 +8,7 @@ use borrow.Table.Row.{get}
 use borrow.Author.Needs.{needs}
 use borrow.Author.Tests.{ltb-true, ltb-false, leb-true, leb-false}
 use Rattle.hops.specs.Hops.{hops, sheetHops}
-use Rattle.hops.proofs.Cases.{by-case}
+use Rattle.hops.proofs.CaseSplits.{by-case}
 use Rattle.hops.proofs.Laws.{off-sheet}
 use Rattle.hops.proofs.Rule.{kept}
 use Rattle.hops.proofs.Sheet.{entry, entry-at}
@@ -22,21 +22,6 @@ returns c = sym (off-sheet _ _ _ λ a b d. by-case (c .if1 .came) (λ w. omega a
 
 returns-2 : tie.Need-returns-2
 returns-2 c = sym (off-sheet _ _ _ λ a b d. by-case (c .if3 .came) (λ w. omega arith) (λ w. omega (arith, leb-true)))
-
-sub-page : tie.Need-sub-page
-sub-page c = search needs
-
-mul-at : tie.Need-mul-at
-mul-at c = search needs
-
-mul-at-2 : tie.Need-mul-at-2
-mul-at-2 c = search needs
-
-add-at : tie.Need-add-at
-add-at c = search needs
-
-add-at-2 : tie.Need-add-at-2
-add-at-2 c = search needs
 
 array-read-result : tie.Need-array-read-result
 array-read-result c = omega (arith, leb-false, ltb-false)
@@ -62,13 +47,5 @@ returns-3 c =
 pub hops-spec : {M : Type 1} → statement M
 hops-spec =
     tie.close
-    (tie.spec
-    returns
-    returns-2
-    sub-page
-    mul-at
-    mul-at-2
-    add-at
-    add-at-2
-    array-read-result
-    returns-3)
+    (tie.spec returns returns-2 (λ c. search needs) (λ c. search needs) (λ c. search needs) (λ c. search needs)
+    (λ c. search needs) array-read-result returns-3)

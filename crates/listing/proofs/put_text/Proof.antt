@@ -22,4 +22,5 @@ returns-3 c =
     (ap Written (laid .0 .ends) ∙ there .0, laid .1 ∙ there .1)
 
 pub put-text-spec : {M : Type 1} → statement M
-put-text-spec = tie.close (tie.spec returns (λ c. search needs) returns-2 (λ c κs. search needs) (λ c. search needs) returns-3)
+put-text-spec =
+    tie.close (tie.spec returns (λ c. search needs) returns-2 (λ c κs. search needs) (λ c. search needs) returns-3)

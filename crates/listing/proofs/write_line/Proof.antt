@@ -7,9 +7,6 @@ use Rattle.listing.proofs.Room.{built}
 use Rattle.listing.proofs.write_line.Statement.{statement}
 use Rattle.listing.proofs.write_line.Tie as tie
 
-slice-aggregate-put-text : tie.Need-slice-aggregate-put-text
-slice-aggregate-put-text c = sym (length-take-le _ _ (omega arith))
-
 returns : tie.Need-returns
 returns c =
     let put = c .before .before in
@@ -19,5 +16,5 @@ returns c =
 pub write-line-spec : {M : Type 1} → statement M
 write-line-spec =
     tie.close
-    (tie.spec (λ c. search needs) (λ c κs. search needs) (λ c. search needs) slice-aggregate-put-text (λ c κs. search needs)
-    (λ c. search needs) returns)
+    (tie.spec (λ c. search needs) (λ c κs. search needs) (λ c. search needs) (λ c. sym (length-take-le _ _ (omega arith)))
+    (λ c κs. search needs) (λ c. search needs) returns)

@@ -9,9 +9,6 @@ use Rattle.listing.proofs.Room.{built}
 use Rattle.listing.proofs.write_too_long.Statement.{statement}
 use Rattle.listing.proofs.write_too_long.Tie as tie
 
-slice-aggregate-put-text : tie.Need-slice-aggregate-put-text
-slice-aggregate-put-text c = sym (length-take-le _ _ (omega arith))
-
 returns : tie.Need-returns
 unfolding tooLong
 returns c =
@@ -23,5 +20,6 @@ returns c =
 pub write-too-long-spec : {M : Type 1} → statement M
 write-too-long-spec =
     tie.close
-    (tie.spec (λ c. search needs) (λ c. search needs) (λ c κs. search needs) (λ c. search needs) (λ c κs. search needs)
-    (λ c. search needs) slice-aggregate-put-text (λ c κs. search needs) (λ c. search needs) returns)
+    (tie.spec (λ c. search needs) (λ c. search needs) (λ c κs. search needs) (λ c. search needs)
+    (λ c κs. search needs) (λ c. search needs) (λ c. sym (length-take-le _ _ (omega arith))) (λ c κs. search needs) (λ c. search needs)
+    returns)

@@ -4,17 +4,11 @@ use Rattle.soundness.proofs.Decides.{says-no, restated, decides-same}
 use Rattle.soundness.proofs.counts_fit.Statement.{statement}
 use Rattle.soundness.proofs.counts_fit.Tie as tie
 
-returns : tie.Need-returns
-returns c = says-no (λ f. omega arith)
-
-returns-2 : tie.Need-returns-2
-returns-2 c = says-no (λ f. omega arith)
-
-returns-3 : tie.Need-returns-3
-returns-3 c = says-no (λ f. omega arith)
-
 returns-4 : tie.Need-returns-4
 returns-4 c = restated (λ e. omega arith) (λ f. f .spare-zero) (decides-same _ _)
 
 pub counts-fit-spec : {M : Type 1} → statement M
-counts-fit-spec = tie.close (tie.spec returns returns-2 returns-3 returns-4)
+counts-fit-spec =
+    tie.close
+    (tie.spec (λ c. says-no (λ f. omega arith)) (λ c. says-no (λ f. omega arith)) (λ c. says-no (λ f. omega arith))
+    returns-4)

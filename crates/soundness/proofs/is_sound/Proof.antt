@@ -10,27 +10,57 @@ use Rattle.soundness.specs.Fits.{CountsFit, Fits}
 use Rattle.soundness.specs.Decides.{Decides}
 use Rattle.soundness.proofs.Decides.{same-test, refused, granted, restated}
 use Rattle.soundness.proofs.View.{Whole}
-use Rattle.soundness.proofs.Accepted.{fits-sound}
-use Rattle.soundness.proofs.Passes.{sound-fits}
+use Rattle.soundness.proofs.FitsSound.{fits-sound}
+use Rattle.soundness.proofs.SoundFits.{sound-fits}
 use Rattle.soundness.proofs.is_sound.Statement.{statement}
 use Rattle.soundness.proofs.is_sound.Tie as tie
 
--- the moments of the test: at its start, and where the counts, the nodes, the channels, the records and the messages have passed
+-- The moments of the test: its start, and where the counts, the nodes, the channels and the records have passed. Between two of them
+-- arrays of the head are read into locals and then lent.
 
 abbrev began : tie.Else1 → tie.Start
 began c = c .before .before
 
-abbrev counted : tie.Else2 → tie.Else1
-counted c = c .before .before .before .before .before .before .before .before .before .before .before
+abbrev nodes-read : tie.After-waiting → tie.Else1
+nodes-read c = c .before .before .before .before
 
-abbrev noded : tie.Else3 → tie.Else2
-noded c = c .before .before .before .before .before .before .before .before .before .before
+abbrev nodes-lent : tie.After-marks2 → tie.After-marks
+nodes-lent c = c .before .before .before .before
 
-abbrev channelled : tie.Else4 → tie.Else3
-channelled c = c .before .before .before .before
+abbrev counted : tie.After-nodes-fit → tie.Else1
+counted c = nodes-read (nodes-lent (c .before) .before)
 
-abbrev recorded : tie.Else5 → tie.Else4
-recorded c = c .before .before .before .before .before .before .before
+abbrev channels-read : tie.After-offered → tie.Else2
+channels-read c = c .before .before .before .before
+
+abbrev channels-lent : tie.After-offered2 → tie.After-offered
+channels-lent c = c .before .before .before .before
+
+abbrev noded : tie.After-channels-fit → tie.Else2
+noded c = channels-read (channels-lent (c .before))
+
+abbrev channelled : tie.After-records-fit → tie.Else3
+channelled c = c .before .before .before
+
+abbrev queues-lent : tie.After-waiting3 → tie.Else4
+queues-lent c = c .before .before
+
+abbrev recorded : tie.After-messages-fit → tie.Else4
+recorded c = queues-lent (c .before .before .before .before)
+
+-- the start, as each call finds it
+
+abbrev at-nodes : tie.After-nodes-fit → tie.Start
+at-nodes c = began (counted c)
+
+abbrev at-channels : tie.After-channels-fit → tie.Start
+at-channels c = at-nodes (noded c .before)
+
+abbrev at-records : tie.After-records-fit → tie.Start
+at-records c = at-channels (channelled c .before)
+
+abbrev at-messages : tie.After-messages-fit → tie.Start
+at-messages c = at-records (recorded c .before)
 
 abbrev ringOf : tie.Start → Ring
 ringOf c =
@@ -51,10 +81,12 @@ whole c =
       deliveries = search needs;
     }
 
-counts : (c : tie.Else1) →
-    let head = began c .args .head in
+counts : (c : tie.After-channels-fit) →
+    let head = at-channels c .args .head in
     CountsFit (head .started) (head .«node_count») (head .«channel_count») (head .spare)
-counts c = granted (c .before .counts-fit .ensures) (c .if1 .left)
+counts c =
+    let passed = counted (noded c .before) in
+    granted (passed .before .counts-fit .ensures) (passed .if1 .left)
 
 -- the answers
 
@@ -70,36 +102,27 @@ returns : tie.Need-returns
 returns c = unsound (c .before .before) (λ f. refused (c .before .counts-fit .ensures) (c .if1 .taken) (f .counts))
 
 returns-2 : tie.Need-returns-2
-returns-2 c =
-    let before = c .before .before .before .before .before .before .before .before .before .before .before in
-    unsound (began before) (λ f. refused (c .before .nodes-fit .ensures) (c .if2 .taken) (f .nodes))
+returns-2 c = unsound (at-nodes (c .before)) (λ f. refused (c .before .nodes-fit .ensures) (c .if2 .taken) (f .nodes))
 
 returns-3 : tie.Need-returns-3
-returns-3 c =
-    let before = c .before .before .before .before .before .before .before .before .before .before in
-    unsound (began (counted before)) (λ f. refused (c .before .channels-fit .ensures) (c .if3 .taken) (f .channels))
+returns-3 c = unsound (at-channels (c .before)) (λ f. refused (c .before .channels-fit .ensures) (c .if3 .taken) (f .channels))
 
 returns-4 : tie.Need-returns-4
-returns-4 c =
-    let before = c .before .before .before .before in
-    unsound (began (counted (noded before))) (λ f. refused (c .before .records-fit .ensures) (c .if4 .taken) (f .records))
+returns-4 c = unsound (at-records (c .before)) (λ f. refused (c .before .records-fit .ensures) (c .if4 .taken) (f .records))
 
 returns-5 : tie.Need-returns-5
-returns-5 c =
-    let before = c .before .before .before .before .before .before .before in
-    unsound (began (counted (noded (channelled before))))
-    (λ f. refused (c .before .messages-fit .ensures) (c .if5 .taken) (f .messages))
+returns-5 c = unsound (at-messages (c .before)) (λ f. refused (c .before .messages-fit .ensures) (c .if5 .taken) (f .messages))
 
 returns-6 : tie.Need-returns-6
 returns-6 c =
     let messages = c .before in
-    let records = recorded messages in
-    let channels = channelled records in
-    let nodes = noded channels in
-    sound-exactly (began (counted nodes))
+    let records = recorded (messages .before) in
+    let channels = channelled (records .before) in
+    let nodes = noded (channels .before) in
+    sound-exactly (at-messages (messages .before))
     (restated
     (λ start. record {
-      counts = counts (counted nodes);
+      counts = counts (channels .before);
       nodes = granted (nodes .before .nodes-fit .ensures) (nodes .if2 .left);
       channels = granted (channels .before .channels-fit .ensures) (channels .if3 .left);
       records = granted (records .before .records-fit .ensures) (records .if4 .left);
@@ -108,21 +131,19 @@ returns-6 c =
     })
     (λ f. f .start) (c .start-fits .ensures))
 
+-- the counts are in range where the records and the messages are judged
+
+records-fit-requires : tie.Need-records-fit-requires
+records-fit-requires c κs = counts (c .before .before .before) .channels-within
+
+messages-fit-requires : tie.Need-messages-fit-requires
+messages-fit-requires c κs =
+    let records = queues-lent (c .before .before .before) in
+    let fit = counts (channelled (records .before) .before) in
+    (fit .nodes-within, fit .channels-within)
+
 pub is-sound-spec : {M : Type 1} → statement M
 is-sound-spec =
     tie.close
-    (tie.spec
-    (λ c κs. search needs)
-    returns
-    (λ c κs. search needs)
-    returns-2
-    (λ c κs. search needs)
-    returns-3
-    (λ c κs. counts (counted (noded (c .before .before))) .channels-within)
-    returns-4
-    (λ c κs.
-    let fit = counts (counted (noded (channelled (c .before .before .before .before .before)))) in
-    (fit .nodes-within, fit .channels-within))
-    returns-5
-    (λ c κs. search needs)
-    returns-6)
+    (tie.spec (λ c κs. search needs) returns (λ c κs. search needs) returns-2 (λ c κs. search needs) returns-3
+    records-fit-requires returns-4 messages-fit-requires returns-5 (λ c κs. search needs) returns-6)

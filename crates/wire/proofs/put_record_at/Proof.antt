@@ -10,10 +10,5 @@ returns c = lent _ _ _ _ (c .before .before .put-record .ensures)
 pub put-record-at-spec : {M : Type 1} → statement M
 put-record-at-spec =
     tie.close
-    (tie.spec
-    (λ c. search needs)
-    (λ c. search needs)
-    (λ c. search needs)
-    (λ c κs. search needs)
-    (λ c. search needs)
+    (tie.spec (λ c. search needs) (λ c. search needs) (λ c. search needs) (λ c κs. search needs) (λ c. search needs)
     returns)

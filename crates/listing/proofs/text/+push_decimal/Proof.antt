@@ -27,16 +27,18 @@ below t = and 1 kinds.ps (falls 1 kinds.ps _<_ μ t) reads.Pre
 module _ (t : ℕ) where
   returns : lts.Need-returns (push.Asked, push.Learnt, below t, reads.Post) (given t) reads.Post
   returns c =
-      rw (decimal-one (c .before .before .before .before .before .before .args .n) (omega arith))
-      (bounded (omega arith) (c .before .before .push .ensures))
+      let put = c .before .before in
+      let n = put .before .before .before .before .args .n in
+      rw (decimal-one n (omega arith)) (bounded (omega arith) (put .push .ensures))
 
   push-decimal-requires : lts.Need-push-decimal-requires (push.Asked, push.Learnt, below t, reads.Post) (given t) reads.Post
   push-decimal-requires c κs = omega arith
 
   push-requires-2 : lts.Need-push-requires-2 (push.Asked, push.Learnt, below t, reads.Post) (given t) reads.Post
   push-requires-2 c κs =
-      let n = c .before .before .before .before .before .before .before .args .n in
-      omega (arith, c .before .before .before .push-decimal .ensures, length-more n (omega arith), ten-digits n (omega arith))
+      let above = c .before .before .before in
+      let n = above .before .before .before .before .args .n in
+      omega (arith, above .push-decimal .ensures, length-more n (omega arith), ten-digits n (omega arith))
 
   returns-2 : lts.Need-returns-2 (push.Asked, push.Learnt, below t, reads.Post) (given t) reads.Post
   returns-2 c =

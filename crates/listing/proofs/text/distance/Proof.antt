@@ -5,7 +5,7 @@ use lib.IntN.{negsuc, natAbs}
 use lib.Signed.{mag}
 use mir.Facts.{toZ-ofZ}
 use borrow.Author.Needs.{needs}
-use Rattle.listing.proofs.Signed.{below, above, mirrored, magnitude}
+use Rattle.batch.proofs.Signed.{below, above, mirrored, magnitude}
 use Rattle.listing.proofs.text.distance.Statement.{statement}
 use Rattle.listing.proofs.text.distance.Tie as tie
 

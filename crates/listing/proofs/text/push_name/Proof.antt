@@ -56,22 +56,22 @@ module _ (c : tie.After-name-end) where
 returns : tie.Need-returns
 returns c = rw (c .if1 .taken) nothing
 
-slice-aggregate-push-all : tie.Need-slice-aggregate-push-all
-slice-aggregate-push-all c = sym (size (c .before .before .before .before .before .before))
+-- where the space was put, and before it where the end was known
+abbrev spaced : tie.After-cells → tie.After-push
+spaced c = c .before .before .before .before
 
-push-all-requires : tie.Need-push-all-requires
-push-all-requires c κs = omega (arith, size (c .before .before .before .before .before .before))
+abbrev at-end : tie.After-cells → tie.After-name-end
+at-end c = spaced c .before .before
 
 returns-2 : tie.Need-returns-2
 returns-2 c =
     let lent = c .before .before in
-    let spaced = lent .before .before .before .before .before in
-    let at-end = spaced .before .before in
-    rw (named at-end)
-    (up-to (omega (arith, size at-end)) (spaced .push .ensures then lent .push-all .ensures .0))
+    let end = at-end (lent .before) in
+    rw (named end)
+    (up-to (omega (arith, size end)) (spaced (lent .before) .push .ensures then lent .push-all .ensures .0))
 
 pub push-name-spec : {M : Type 1} → statement M
 push-name-spec =
     tie.close
-    (tie.spec returns (λ c κs. search needs) (λ c κs. search needs) (λ c. search needs) slice-aggregate-push-all
-    push-all-requires (λ c. search needs) returns-2)
+    (tie.spec returns (λ c κs. search needs) (λ c κs. search needs) (λ c. search needs) (λ c. sym (size (at-end c)))
+    (λ c κs. omega (arith, size (at-end c))) (λ c. search needs) returns-2)

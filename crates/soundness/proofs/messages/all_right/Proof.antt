@@ -1,15 +1,13 @@
--- `soundness::messages::all_right` meets its contract. The invariant: what was counted is 0 exactly when every message passed stands where it may.
+-- `soundness::messages::all_right` meets its contract: the loop counts the messages that stand where they may not (proofs/Loops).
 -- Assumes nothing.
 use Prim.Native.Nat.{ℕ, _-_}
 use mathlib.Core.List.{List}
-use mathlib.Core.Logic.{⊎-elim}
 use native.Mathlib.Omega.{arith}
 use lib.ListN.{getD}
 use borrow.Author.Needs.{needs}
 use Rattle.network.specs.Layout.{channelRoom}
 use Rattle.soundness.specs.Fits.{Stands}
-use Rattle.soundness.proofs.Decides.{refused, granted}
-use Rattle.soundness.proofs.Loops.{Counting, counting-start, counting-right, counting-wrong, counting-end}
+use Rattle.soundness.proofs.Loops.{Counting, counting-start, counting-turn, counting-end}
 use Rattle.soundness.proofs.messages.all_right.Statement.{statement}
 use Rattle.soundness.proofs.messages.all_right.Tie as tie
 
@@ -24,36 +22,15 @@ Inv-loop phases senders receivers places wrong₀ k₀ wrong k =
 abbrev μ-loop : tie.MeasureT-loop
 μ-loop phases senders receivers places wrong₀ k₀ wrong k = channelRoom - k
 
-loop-holds : tie.Need-loop-holds Inv-loop μ-loop
-loop-holds c = counting-start
-
 loop-again : tie.Need-loop-again Inv-loop μ-loop
 loop-again c =
-    let judged = c .before .stands-right .ensures in
-    let inside = c .before .before .before .before .before .before in
-    let inv = inside .before .loop .inv in
-    ⊎-elim
-    (λ w. rw (w .1) (counting-wrong inv (inside .loop-test .taken) (refused judged (w .0 .taken))))
-    (λ w. rw (w .1) (counting-right inv (inside .loop-test .taken) (granted judged (w .0 .left))))
-    (c .if1 .came)
-
-returns : tie.Need-returns Inv-loop μ-loop
-returns c = counting-end (c .before .loop .inv) (c .loop-test .left)
+    let turn = c .before .before .before .before .before .before in
+    counting-turn (turn .before .loop .inv) (turn .loop-test .taken) (c .before .stands-right .ensures) (c .if1 .came)
+    (λ w. (w .0 .taken, w .1)) (λ w. (w .0 .left, w .1))
 
 pub all-right-spec : {M : Type 1} → statement M
 all-right-spec =
     tie.close
-    (tie.spec
-    Inv-loop
-    μ-loop
-    loop-holds
-    (λ c. omega arith)
-    (λ c. omega arith)
-    (λ c. omega arith)
-    (λ c. omega arith)
-    (λ c κs. search needs)
-    (λ c. omega arith)
-    (λ c. omega arith)
-    (λ c. omega arith)
-    loop-again
-    returns)
+    (tie.spec Inv-loop μ-loop (λ c. counting-start) (λ c. omega arith) (λ c. omega arith) (λ c. omega arith)
+    (λ c. omega arith) (λ c κs. search needs) (λ c. omega arith) (λ c. omega arith) (λ c. omega arith) loop-again
+    (λ c. counting-end (c .before .loop .inv) (c .loop-test .left)))

@@ -1,27 +1,38 @@
 -- `soundness::messages::messages_fit` meets its contract: its tests are the parts of the statement. Assumes nothing.
 use borrow.Author.Needs.{needs}
 use borrow.Author.Tests.{not-true, not-false}
-use Rattle.soundness.specs.Marks.{markAll, Marked}
+use Rattle.soundness.specs.RowPass.{markAll, Marked}
 use Rattle.soundness.proofs.Decides.{says-no, restated, refused, granted}
-use Rattle.soundness.proofs.Marks.{all-stop, all-more, no-table, same-table}
+use Rattle.soundness.proofs.RowPass.{all-stop, all-more, no-table, same-table}
 use Rattle.soundness.proofs.messages.messages_fit.Statement.{statement}
 use Rattle.soundness.proofs.messages.messages_fit.Tie as tie
+
+-- the moments: the start, where the cells beyond the rows are blank, and where the buffers have passed
+
+abbrev start : tie.Else1 → tie.Start
+start c = c .before .before .before .before
+
+abbrev blank : tie.After-mark → tie.Else1
+blank c = c .before .before .before
+
+abbrev buffers : tie.After-mark2 → tie.Else2
+buffers c = c .before .before .before
 
 returns : tie.Need-returns
 returns c = says-no (λ f. refused (c .before .from .ensures) (c .if1 .taken) (f .slots-beyond, f .lines-beyond))
 
 returns-2 : tie.Need-returns-2
 returns-2 c =
-    let buffers = c .before .before .mark .ensures in
-    says-no (λ f. no-table (all-stop _ _ _ _ _ _ (buffers .stopped (not-true _ (c .if2 .taken)))) (f .marked))
+    let passed = c .before .before .mark .ensures in
+    says-no (λ f. no-table (all-stop _ _ _ _ _ _ (passed .stopped (not-true _ (c .if2 .taken)))) (f .marked))
 
 -- the buffers passed, and the lines come after them
 marked-all : (m : tie.After-mark2) →
-    let given = m .before .before .before .before .before .before .before .before .before .before .before .before .args in
+    let given = start (blank (buffers m .before .before)) .args in
     Marked (m .mark2 .result) (m .mark2 .last .1 .1 .1 .1 .1 .0)
     (markAll (given .node-count) (given .channel-count) (given .used .now) (given .waiting .now) (given .slots .now) (given .lines .now))
 marked-all m =
-    let passed = m .before .before .before in
+    let passed = buffers m in
     rw (all-more _ _ _ _ _ _ (passed .before .before .mark .ensures .passed (not-false _ (passed .if2 .left)))) (m .mark2 .ensures)
 
 returns-3 : tie.Need-returns-3
@@ -31,9 +42,9 @@ returns-4 : tie.Need-returns-4
 returns-4 c =
     let lines = c .before .before in
     let m = lines .before .before in
-    let blank = m .before .before .before .before .before .before .before .before in
+    let cleared = blank (buffers m .before .before) in
     let all = marked-all m .passed (not-false _ (lines .if3 .left)) in
-    let beyond = granted (blank .before .from .ensures) (blank .if1 .left) in
+    let beyond = granted (cleared .before .from .ensures) (cleared .if1 .left) in
     restated
     (λ right. record {
       slots-whole = search needs;
@@ -49,15 +60,5 @@ returns-4 c =
 pub messages-fit-spec : {M : Type 1} → statement M
 messages-fit-spec =
     tie.close
-    (tie.spec
-    (λ c. search needs)
-    (λ c κs. search needs)
-    returns
-    (λ c. search needs)
-    (λ c κs. search needs)
-    returns-2
-    (λ c. search needs)
-    (λ c κs. search needs)
-    returns-3
-    (λ c κs. search needs)
-    returns-4)
+    (tie.spec (λ c. search needs) (λ c κs. search needs) returns (λ c. search needs) (λ c κs. search needs) returns-2
+    (λ c. search needs) (λ c κs. search needs) returns-3 (λ c κs. search needs) returns-4)

@@ -1,29 +1,30 @@
 -- `soundness::messages::stands_right` meets its contract, by the phase and then by the place. Assumes nothing.
-use Prim.Native.Nat.{ℕ, _-_, _≤_}
+use Prim.Native.Nat.{ℕ, _-_, _≤_, _<_}
 use mathlib.Core.Path.{_≡_, sym, _∙_}
 use mathlib.Core.Bool.{Bool}
-use mathlib.Core.Logic.{⊎-elim}
+use mathlib.Core.Logic.{_≢_, ⊎-elim}
 use native.Mathlib.Omega.{arith}
+use lib.Dec.{eqb}
 use borrow.Author.Needs.{needs}
 use Rattle.network.proofs.Cases.{by-same}
 use Rattle.soundness.specs.Decides.{Decides}
-use Rattle.soundness.specs.Marks.{inBuffer, inLine}
+use Rattle.soundness.specs.RowPass.{inBuffer, inLine}
 use Rattle.soundness.specs.Fits.{UnderWay, Stands}
 use Rattle.soundness.proofs.Decides.{says-no, restated, decides-same}
+use Rattle.soundness.proofs.Way.{stands-nowhere, stands-asking, stands-answering}
 use Rattle.soundness.proofs.messages.stands_right.Statement.{statement}
 use Rattle.soundness.proofs.messages.stands_right.Tie as tie
 
+-- a channel that rests or is ready has no message
+nowhere : {phase sender receiver place : ℕ} → phase ≢ 1 → phase < 3 → Decides (eqb place 0) (Stands phase sender receiver place)
+nowhere {phase} still most =
+    restated (stands-nowhere still most) (λ s. by-same phase 0 (s .resting) (λ d. s .ready (omega arith))) (decides-same _ 0)
+
 returns : tie.Need-returns
-returns c =
-    restated
-    (λ e. record { resting = λ h. e; asking = λ h. absurd (omega arith); ready = λ h. e; answering = λ h. absurd (omega arith) })
-    (λ s. s .resting (c .if1 .taken)) (decides-same _ 0)
+returns c = nowhere (omega arith) (omega arith)
 
 returns-2 : tie.Need-returns-2
-returns-2 c =
-    restated
-    (λ e. record { resting = λ h. e; asking = λ h. absurd (omega arith); ready = λ h. e; answering = λ h. absurd (omega arith) })
-    (λ s. s .ready (c .if2 .taken)) (decides-same _ 0)
+returns-2 c = nowhere (omega arith) (omega arith)
 
 returns-3 : tie.Need-returns-3
 returns-3 c =
@@ -34,40 +35,25 @@ returns-3 c =
     (λ d. omega (arith, s .answering (omega arith) .somewhere)))
 
 -- what is left is a message under way, from the receiver to the sender or back
-module _ {phase sender receiver place : ℕ} {r : Bool} where
-  asking-stands : phase ≡ 1 → Decides r (UnderWay receiver sender place) → Decides r (Stands phase sender receiver place)
-  asking-stands e =
-      restated
-      (λ u. record {
-        resting = λ h. absurd (omega arith);
-        asking = λ h. u;
-        ready = λ h. absurd (omega arith);
-        answering = λ h. absurd (omega arith);
-      })
-      (λ s. s .asking e)
 
-  answering-stands : 3 ≤ phase → Decides r (UnderWay sender receiver place) → Decides r (Stands phase sender receiver place)
-  answering-stands l =
-      restated
-      (λ u. record {
-        resting = λ h. absurd (omega arith);
-        asking = λ h. absurd (omega arith);
-        ready = λ h. absurd (omega arith);
-        answering = λ h. u;
-      })
-      (λ s. s .answering l)
+abbrev start : tie.Else3 → tie.Start
+start c = c .before .before .before
 
 routed : (c : tie.Joined4) {r : Bool} →
-    let given = c .before .before .before .before .args in
+    let given = start (c .before) .args in
     Decides r (UnderWay (c .if4 .entry) (c .if4 .target) (given .place)) →
     Decides r (Stands (given .phase) (given .sender) (given .receiver) (given .place))
 routed c d =
-    ⊎-elim (λ w. asking-stands (w .0 .taken) (rw (w .1, w .2) at d))
-    (λ w. answering-stands (omega (arith, w .0 .left)) (rw (w .1, w .2) at d)) (c .if4 .came)
+    ⊎-elim
+    (λ w. let asks = w .0 .taken in restated (stands-asking asks) (λ s. s .asking asks) (rw (w .1, w .2) at d))
+    (λ w.
+    let answers : 3 ≤ start (c .before) .args .phase = omega (arith, w .0 .left) in
+    restated (stands-answering answers) (λ s. s .answering answers) (rw (w .1, w .2) at d))
+    (c .if4 .came)
 
 returns-4 : tie.Need-returns-4
 returns-4 c =
-    let place = c .before .before .before .before .before .args .place in
+    let place = start (c .before .before) .args .place in
     routed (c .before)
     (restated
     (λ e. record { somewhere = omega arith; in-buffer = λ p l h. absurd (omega arith); in-line = λ p h. omega arith })
@@ -75,7 +61,7 @@ returns-4 c =
 
 returns-5 : tie.Need-returns-5
 returns-5 c =
-    let place = c .before .before .before .before .before .before .args .place in
+    let place = start (c .before .before .before) .args .place in
     routed (c .before .before)
     (record {
       holds = λ e. record {
@@ -88,5 +74,4 @@ returns-5 c =
 
 pub stands-right-spec : {M : Type 1} → statement M
 stands-right-spec =
-    tie.close
-    (tie.spec returns returns-2 returns-3 returns-4 (λ c. search needs) (λ c κs. search needs) returns-5)
+    tie.close (tie.spec returns returns-2 returns-3 returns-4 (λ c. search needs) (λ c κs. search needs) returns-5)

@@ -9,27 +9,22 @@ use Rattle.soundness.proofs.Decides.{says-no}
 use Rattle.soundness.proofs.nodes.used_node.Statement.{statement}
 use Rattle.soundness.proofs.nodes.used_node.Tie as tie
 
-returns : tie.Need-returns
-returns c = says-no (λ u. omega arith)
-
-returns-2 : tie.Need-returns-2
-returns-2 c = says-no (λ u. omega arith)
-
-returns-3 : tie.Need-returns-3
-returns-3 c = says-no (λ u. omega arith)
+-- the start, where a mark stands
+abbrev start : tie.Else4 → tie.Start
+start c = c .before .before .before .before
 
 returns-5 : tie.Need-returns-5
 returns-5 c =
-    let started = c .before .before .before .before .before .args .started in
+    let started = start (c .before) .args .started in
     let off : one started ≡ 0 = ap one (not-true started (c .if5 .taken)) in
     says-no (λ u. omega arith)
 
 returns-6 : tie.Need-returns-6
-returns-6 c = says-no (λ u. omega (arith, one-most (c .before .before .before .before .before .before .args .started)))
+returns-6 c = says-no (λ u. omega (arith, one-most (start (c .before .before) .args .started)))
 
 returns-7 : tie.Need-returns-7
 returns-7 c =
-    let args = c .before .before .before .before .before .before .args in
+    let args = start (c .before .before) .args in
     let on : one (args .started) ≡ 1 = ap one (not-false (args .started) (c .before .if5 .left)) in
     record {
       holds = λ e. omega (arith, ltb-true);
@@ -38,4 +33,6 @@ returns-7 c =
 
 pub used-node-spec : {M : Type 1} → statement M
 used-node-spec =
-    tie.close (tie.spec returns returns-2 returns-3 (λ c. search needs) returns-5 returns-6 returns-7)
+    tie.close
+    (tie.spec (λ c. says-no (λ u. omega arith)) (λ c. says-no (λ u. omega arith)) (λ c. says-no (λ u. omega arith))
+    (λ c. search needs) returns-5 returns-6 returns-7)

@@ -1,8 +1,6 @@
--- `soundness::records::each_fits` meets its contract. The invariant: what was counted is 0 exactly when every record passed fits.
--- Assumes nothing.
+-- `soundness::records::each_fits` meets its contract: the loop counts the records that do not fit (proofs/Loops). Assumes nothing.
 use Prim.Native.Nat.{ℕ, _-_}
 use mathlib.Core.List.{List}
-use mathlib.Core.Logic.{⊎-elim}
 use native.Mathlib.Omega.{arith}
 use lib.Dec.{eqb}
 use lib.ListN.{getD}
@@ -10,8 +8,7 @@ use Rattle.wire.specs.Record.{recordLength}
 use Rattle.network.specs.Layout.{row}
 use Rattle.network.proofs.Rows.{row-length}
 use Rattle.soundness.specs.Fits.{BytesFit}
-use Rattle.soundness.proofs.Decides.{refused, granted}
-use Rattle.soundness.proofs.Loops.{Counting, counting-start, counting-right, counting-wrong, counting-end}
+use Rattle.soundness.proofs.Loops.{Counting, counting-start, counting-turn, counting-end}
 use Rattle.soundness.proofs.Zeros.{part-is-row}
 use Rattle.soundness.proofs.records.each_fits.Statement.{statement}
 use Rattle.soundness.proofs.records.each_fits.Tie as tie
@@ -34,33 +31,13 @@ record-fits-requires c κs =
 
 loop-again : tie.Need-loop-again Inv-loop μ-loop
 loop-again c =
-    let inside = c .before .before .before .before in
-    let inv = inside .before .loop .inv in
-    let judged = rw part-is-row at (c .before .record-fits .ensures) in
-    ⊎-elim
-    (λ w. rw (w .1) (counting-wrong inv (inside .loop-test .taken) (refused judged (w .0 .taken))))
-    (λ w. rw (w .1) (counting-right inv (inside .loop-test .taken) (granted judged (w .0 .left))))
-    (c .if1 .came)
-
-returns : tie.Need-returns Inv-loop μ-loop
-returns c = counting-end (c .before .loop .inv) (c .loop-test .left)
+    let turn = c .before .before .before .before in
+    counting-turn (turn .before .loop .inv) (turn .loop-test .taken) (rw part-is-row at (c .before .record-fits .ensures)) (c .if1 .came)
+    (λ w. (w .0 .taken, w .1)) (λ w. (w .0 .left, w .1))
 
 pub each-fits-spec : {M : Type 1} → statement M
 each-fits-spec =
     tie.close
-    (tie.spec
-    Inv-loop
-    μ-loop
-    (λ c. counting-start)
-    (λ c. omega arith)
-    (λ c. omega arith)
-    (λ c. omega arith)
-    (λ c. omega arith)
-    (λ c. omega arith)
-    (λ c. omega arith)
-    record-fits-requires
-    (λ c. omega arith)
-    (λ c. omega arith)
-    (λ c. omega arith)
-    loop-again
-    returns)
+    (tie.spec Inv-loop μ-loop (λ c. counting-start) (λ c. omega arith) (λ c. omega arith) (λ c. omega arith)
+    (λ c. omega arith) (λ c. omega arith) (λ c. omega arith) record-fits-requires (λ c. omega arith)
+    (λ c. omega arith) (λ c. omega arith) loop-again (λ c. counting-end (c .before .loop .inv) (c .loop-test .left)))

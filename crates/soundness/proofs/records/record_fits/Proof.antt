@@ -44,5 +44,5 @@ returns-3 c =
 pub record-fits-spec : {M : Type 1} → statement M
 record-fits-spec =
     tie.close
-    (tie.spec (λ c κs. search needs) returns slice-aggregate-all-zero (λ c κs. search needs) returns-2 (λ c. search needs)
-    (λ c. search needs) (λ c. search needs) (λ c κs. search needs) returns-3)
+    (tie.spec (λ c κs. search needs) returns slice-aggregate-all-zero (λ c κs. search needs) returns-2
+    (λ c. search needs) (λ c. search needs) (λ c. search needs) (λ c κs. search needs) returns-3)

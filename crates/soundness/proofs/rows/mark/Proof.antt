@@ -8,8 +8,8 @@ use borrow.Author.Tests.{not-true, not-false}
 use borrow.Author.Needs.{needs}
 use Rattle.network.specs.Layout.{channelRoom, rowLength}
 use Rattle.network.proofs.Rows.{row-length}
-use Rattle.soundness.specs.Marks.{markRows, Marked}
-use Rattle.soundness.proofs.Marks.{says-passed, says-stopped, rowAfter, rows-start, rows-more, rows-stop}
+use Rattle.soundness.specs.RowPass.{markRows, Marked}
+use Rattle.soundness.proofs.RowPass.{says-passed, says-stopped, rowAfter, rows-start, rows-more, rows-stop}
 use Rattle.soundness.proofs.Zeros.{part-is-row}
 use Rattle.soundness.proofs.rows.mark.Statement.{statement}
 use Rattle.soundness.proofs.rows.mark.Tie as tie
@@ -24,39 +24,42 @@ abbrev μ-loop : tie.MeasureT-loop
 loop-holds : tie.Need-loop-holds Inv-loop μ-loop
 loop-holds c = (omega arith, search needs, rows-start _ _ _ _ _)
 
+-- the start, and the turn in which the call is made for the row of node p
+
+abbrev start : tie.At-loop Inv-loop μ-loop → tie.Start Inv-loop μ-loop
+start c = c .before .before .before
+
+abbrev turn : tie.After-mark-row-arg3 Inv-loop μ-loop → tie.At-loop Inv-loop μ-loop
+turn c = c .before .before .before .before
+
 mark-row-requires : tie.Need-mark-row-requires Inv-loop μ-loop
 mark-row-requires c κs =
-    let l = c .before .before .before .before .loop in
-    let start = c .before .before .before .before .before .before .before in
-    (start .pre .1, rw (part-is-row rowLength (start .args .cells .now) (l .p)) (row-length rowLength (start .args .cells .now) (l .p) (omega arith)), l .inv .1)
+    let l = turn c .loop in
+    let given = start (turn c) in
+    let cells = given .args .cells .now in
+    (given .pre .1, rw (part-is-row rowLength cells (l .p)) (row-length rowLength cells (l .p) (omega arith)), l .inv .1)
 
--- the call passes over the row of node p
-module _ (c : tie.After-mark-row Inv-loop μ-loop) where
-  abbrev start : tie.Start Inv-loop μ-loop
-  start = c .before .before .before .before .before .before .before .before
-
-  abbrev turn : tie.At-loop Inv-loop μ-loop
-  turn = c .before .before .before .before .before
-
-  judged : Marked (c .mark-row .result) (c .mark-row .last .1 .1 .1 .1 .0)
-      (rowAfter (start .args .channel-count) (start .args .first) (start .args .used .now) (start .args .cells .now) (start .args .stands .now)
-      (turn .loop .p) (turn .loop .stands))
-  judged = rw part-is-row at (c .mark-row .ensures)
+judged : (c : tie.After-mark-row Inv-loop μ-loop) →
+    let given = start (turn (c .before)) .args in
+    let l = turn (c .before) .loop in
+    Marked (c .mark-row .result) (c .mark-row .last .1 .1 .1 .1 .0)
+    (rowAfter (given .channel-count) (given .first) (given .used .now) (given .cells .now) (given .stands .now) (l .p) (l .stands))
+judged c = rw part-is-row at (c .mark-row .ensures)
 
 returns : tie.Need-returns Inv-loop μ-loop
 returns c =
     let d = c .before .before .before in
-    let p = turn d .loop .p in
+    let p = turn (d .before) .loop .p in
     says-stopped
-    (rows-stop _ _ _ _ _ _ p (omega arith) (rows-more _ _ _ _ _ p (turn d .loop .inv .2) (judged d .stopped (not-true _ (c .if1 .taken)))))
+    (rows-stop _ _ _ _ _ _ p (omega arith) (rows-more _ _ _ _ _ p (turn (d .before) .loop .inv .2) (judged d .stopped (not-true _ (c .if1 .taken)))))
 
 loop-again : tie.Need-loop-again Inv-loop μ-loop
 loop-again c =
     let d = c .before .before .before in
-    let p = turn d .loop .p in (
+    let p = turn (d .before) .loop .p in (
       omega arith,
-      d .mark-row .kept .1 .1 .1 .1 .0 ∙ turn d .loop .inv .1,
-      rows-more _ _ _ _ _ p (turn d .loop .inv .2) (judged d .passed (not-false _ (c .if1 .left))),
+      d .mark-row .kept .1 .1 .1 .1 .0 ∙ turn (d .before) .loop .inv .1,
+      rows-more _ _ _ _ _ p (turn (d .before) .loop .inv .2) (judged d .passed (not-false _ (c .if1 .left))),
     )
 
 returns-2 : tie.Need-returns-2 Inv-loop μ-loop
@@ -68,23 +71,6 @@ returns-2 c =
 pub mark-spec : {M : Type 1} → statement M
 mark-spec =
     tie.close
-    (tie.spec
-    Inv-loop
-    μ-loop
-    loop-holds
-    (λ c. search needs)
-    (λ c. omega arith)
-    (λ c. omega arith)
-    (λ c. omega arith)
-    (λ c. omega arith)
-    (λ c. omega arith)
-    (λ c. omega arith)
-    (λ c. omega arith)
-    mark-row-requires
-    (λ c. search needs)
-    returns
-    (λ c. omega arith)
-    (λ c. omega arith)
-    loop-again
-    (λ c. search needs)
-    returns-2)
+    (tie.spec Inv-loop μ-loop loop-holds (λ c. search needs) (λ c. omega arith) (λ c. omega arith) (λ c. omega arith)
+    (λ c. omega arith) (λ c. omega arith) (λ c. omega arith) (λ c. omega arith) mark-row-requires (λ c. search needs)
+    returns (λ c. omega arith) (λ c. omega arith) loop-again (λ c. search needs) returns-2)

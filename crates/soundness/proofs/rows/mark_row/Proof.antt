@@ -3,8 +3,8 @@ use mathlib.Core.Path.{_≡_, sym, _∙_}
 use native.Mathlib.Omega.{arith}
 use lib.Seq.{length-take-le}
 use borrow.Author.Needs.{needs}
-use Rattle.soundness.specs.Marks.{cellsInUse}
-use Rattle.soundness.proofs.Marks.{in-use-most, row-right, row-wrong, says-stopped}
+use Rattle.soundness.specs.RowPass.{cellsInUse}
+use Rattle.soundness.proofs.RowPass.{in-use-most, row-right, row-wrong, says-stopped}
 use Rattle.soundness.proofs.rows.mark_row.Statement.{statement}
 use Rattle.soundness.proofs.rows.mark_row.Tie as tie
 
@@ -25,10 +25,5 @@ returns-2 c =
 pub mark-row-spec : {M : Type 1} → statement M
 mark-row-spec =
     tie.close
-    (tie.spec
-    (λ c κs. search needs)
-    returns
-    slice-aggregate-mark-cells
-    (λ c κs. search needs)
-    (λ c. search needs)
+    (tie.spec (λ c κs. search needs) returns slice-aggregate-mark-cells (λ c κs. search needs) (λ c. search needs)
     returns-2)

@@ -3,7 +3,7 @@ use native.Mathlib.Omega.{arith}
 use borrow.Author.Needs.{needs}
 use borrow.Author.Tests.{lt-ltb}
 use Rattle.wire.specs.Bytes.{signed}
-use Rattle.wire.proofs.Signed.{upper, upper-fits}
+use Rattle.wire.proofs.Twos.{upper, upper-fits}
 use Rattle.wire.proofs.fields.from_bits.Statement.{statement}
 use Rattle.wire.proofs.fields.from_bits.Tie as tie
 
@@ -19,5 +19,4 @@ returns-2 c = upper (c .before .args .bits) (omega arith) (c .before .fits .bits
 
 pub from-bits-spec : {M : Type 1} → statement M
 from-bits-spec =
-    tie.close
-    (tie.spec (λ c. search needs) (λ c. search needs) (λ c. search needs) sub-result-2 returns returns-2)
+    tie.close (tie.spec (λ c. search needs) (λ c. search needs) (λ c. search needs) sub-result-2 returns returns-2)

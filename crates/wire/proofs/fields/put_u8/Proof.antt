@@ -8,12 +8,6 @@ use Rattle.wire.specs.Bytes.{little, overwritten}
 use Rattle.wire.proofs.fields.put_u8.Statement.{statement}
 use Rattle.wire.proofs.fields.put_u8.Tie as tie
 
-slice-write-bytes : tie.Need-slice-write-bytes
-slice-write-bytes c = search needs
-
-same-length : tie.Need-same-length
-same-length c = search needs
-
 returns : tie.Need-returns
 unfolding little overwritten
 returns c =
@@ -21,4 +15,4 @@ returns c =
     rw byte (set-split (c .args .bytes .now) 0 (c .args .value) (search needs))
 
 pub put-u8-spec : {M : Type 1} → statement M
-put-u8-spec = tie.close (tie.spec slice-write-bytes same-length returns)
+put-u8-spec = tie.close (tie.spec (λ c. search needs) (λ c. search needs) returns)

@@ -5,11 +5,8 @@ use Rattle.wire.proofs.Numbers.{number-one}
 use Rattle.wire.proofs.fields.u8_at.Statement.{statement}
 use Rattle.wire.proofs.fields.u8_at.Tie as tie
 
-shared-slice-read-result : tie.Need-shared-slice-read-result
-shared-slice-read-result c = search needs
-
 returns : tie.Need-returns
 returns c = sym (number-one (c .before .args .at) (c .before .args .bytes .now) (search needs))
 
 pub u8-at-spec : {M : Type 1} → statement M
-u8-at-spec = tie.close (tie.spec shared-slice-read-result returns)
+u8-at-spec = tie.close (tie.spec (λ c. search needs) returns)

@@ -1,17 +1,23 @@
--- The machine's arithmetic on an i16, as `distance` uses it: -1 - z takes a number below 0 to one that is not. `toZ w16` and `ofZ w16`
+-- The machine's arithmetic on an i16: its test tells the sign, and -1 - z takes a number below 0 to its magnitude. `toZ w16` and `ofZ w16`
 -- are the machine's own reading of 16 bits, there and back. Assumes nothing.
-use Prim.Native.Nat.{_<_}
+use Prim.Native.Nat.{ℕ, zero, suc, _<_}
 use mathlib.Core.Path.{_≡_, refl, ap, _∙_}
 use mathlib.Core.Bool.{true, false, true≢false}
-use mathlib.Core.List.{_∷_}
 use native.Mathlib.Omega.{arith}
-use lib.IntN.{ℤ, pos, negsuc, natAbs, _-ℤ_, negℤ, +ℤ-comm, -ℤ-one}
+use lib.IntN.{ℤ, pos, negsuc, _-ℤ_, negℤ, predℤ, +ℤ-comm, -ℤ-one}
 use lib.Signed.{mag, ltZ}
 use mir.Syntax.{w16}
 use mir.Val.{SFits, toZ, ofZ}
 use mir.Facts.{toZ-ofZ, toZ-pos}
 use borrow.Author.Tests.{ltb-true}
-use Rattle.listing.specs.Digits.{decimal, signed}
+
+-- -1 - z
+mirror : (z : ℤ) → negsuc 0 -ℤ z ≡ predℤ (negℤ z)
+mirror z = +ℤ-comm (negsuc 0) (negℤ z) ∙ -ℤ-one (negℤ z)
+
+pub mirror-pos : (m : ℕ) → negsuc 0 -ℤ pos m ≡ negsuc m
+mirror-pos zero = mirror (pos 0)
+mirror-pos (suc m) = mirror (pos (suc m))
 
 -- what the machine's test of a number tells
 pub below : (z : ℤ) → SFits w16 z → ltZ (toZ w16 (ofZ w16 z)) (pos 0) ≡ true → z ≡ negsuc (mag z)
@@ -25,18 +31,7 @@ above (negsuc n) f e = absurd (true≢false (rw (toZ-ofZ f) at e))
 -- a number below 0 goes to its magnitude
 module _ (z : ℤ) (f : SFits w16 z) (e : z ≡ negsuc (mag z)) where
   pub mirrored : negsuc 0 -ℤ toZ w16 (ofZ w16 z) ≡ pos (mag z)
-  mirrored =
-      rw (toZ-ofZ f)
-      (ap (λ (y : ℤ). negsuc 0 -ℤ y) e ∙ +ℤ-comm (negsuc 0) (negℤ (negsuc (mag z))) ∙ -ℤ-one (negℤ (negsuc (mag z))))
+  mirrored = rw (toZ-ofZ f) (ap (λ (y : ℤ). negsuc 0 -ℤ y) e ∙ mirror (negsuc (mag z)))
 
   pub magnitude : toZ w16 (ofZ w16 (negsuc 0 -ℤ toZ w16 (ofZ w16 z))) ≡ pos (mag z)
   magnitude = rw mirrored (toZ-pos w16 (f .sfits))
-
--- the digits after the sign are those of the distance from 0
-pub signed-below : (z : ℤ) → z ≡ negsuc (mag z) → signed z ≡ 0x2D ∷ decimal (natAbs z)
-unfolding signed
-signed-below z e = rw e
-
-pub signed-above : (z : ℤ) → z ≡ pos (mag z) → signed z ≡ decimal (natAbs z)
-unfolding signed
-signed-above z e = rw e

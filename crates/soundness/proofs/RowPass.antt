@@ -1,4 +1,4 @@
--- Laws of the pass over the rows (specs/Marks), as its loops need them: a cell, a row, several rows, all rows. What the table says after
+-- Laws of the pass over the rows (specs/RowPass), as its loops need them: a cell, a row, several rows, all rows. What the table says after
 -- the pass is in Table. Assumes nothing.
 use Prim.Native.Nat.{ℕ, zero, suc, pred, _+_, _-_, _≤_, _<_, min}
 use mathlib.Core.Path.{_≡_, refl, _∙_}
@@ -16,7 +16,7 @@ use Rattle.network.proofs.Cases.{by-same, by-test, both-ways}
 use Rattle.network.specs.Layout.{channelRoom, rowLength, row}
 use Rattle.network.proofs.Counting.{sum-le, sum-ones}
 use Rattle.soundness.specs.Decides.{Decides}
-use Rattle.soundness.specs.Marks.{inBuffer, inLine, fresh, mark, cellsInUse, markRow, markRows, markAll, Marked}
+use Rattle.soundness.specs.RowPass.{inBuffer, inLine, fresh, mark, cellsInUse, markRow, markRows, markAll, Marked}
 use Rattle.soundness.proofs.Decides.{restated, decides-less, decides-most, decides-same, decides-and}
 
 -- a cell

@@ -1,86 +1,23 @@
--- What the table says after the pass over the rows (specs/Marks). A channel was met as many times as it stands in the cells, at most once,
--- and where it stands in a row the table has the row's place (`Met`, `MetRows`). Back: rows whose cells are used, with channels in use
--- that stand there at most once, do not stop the pass. Assumes nothing.
+-- The table of places after the pass over the rows (specs/RowPass). A channel was met as many times as it stands in the cells, at most
+-- once, and where it stands in a row the table has the row's place (`Met`, `MetRows`, `Places`). Back: rows whose cells are used, with
+-- channels in use that stand there at most once, do not stop the pass. Assumes nothing.
 use Prim.Native.Nat.{ℕ, zero, suc, pred, _+_, _≤_, _<_, min}
-use mathlib.Core.Path.{_≡_, refl, sym, ap, _∙_}
+use mathlib.Core.Path.{_≡_, refl, sym, _∙_}
 use mathlib.Core.List.{List, [], _∷_, map}
 use mathlib.Core.Option.{some}
 use native.Mathlib.Nat.{not-suc-le-zero}
 use native.Mathlib.Omega.{arith}
 use lib.Dec.{eqb}
-use lib.ListN.{length, getD, take, set, replicate, length-set, List·getD-eq-default}
-use lib.Seq.{getD-set-same, getD-set-other, getD-take, length-take-le}
+use lib.ListN.{length, getD, take, set, replicate, length-set}
+use lib.Seq.{getD-set-same, getD-set-other}
 use Rattle.network.specs.Counting.{one, sum, weigh, count}
-use Rattle.network.specs.Layout.{channelRoom, rowLength, row, padded, cellsOf, queueOf}
-use Rattle.network.proofs.Cases.{by-same, by-test, by-less, by-option}
-use Rattle.network.proofs.Counting.{count-same, count-other, sum-same, sum-add, sum-ones}
-use Rattle.network.proofs.Rows.{padded-is, getD-blanks}
-use Rattle.soundness.specs.Marks.{inBuffer, inLine, fresh, mark, cellsInUse, markRow, markRows, markAll}
-use Rattle.soundness.proofs.Marks.{Fresh, decides-fresh, mark-fresh, no-table, same-table, row-right, row-wrong, afterBuffers, all-stop, all-more}
-use Rattle.soundness.proofs.Loops.{sum-rest, sum-beyond}
-
--- used cells, each with a channel in use
-
-abbrev pub Used : ℕ → List ℕ → Type 0
-Used c [] = Unit {0}
-Used c (x ∷ xs) = (0 < x) × (x ≤ c) × Used c xs
-
--- read as a queue, and laid out again
-pub used-back : (c : ℕ) (xs : List ℕ) → Used c xs → cellsOf (map pred xs) ≡ xs
-used-back c [] u = refl
-used-back c (x ∷ xs) u = let same : suc (pred x) ≡ x = omega (arith, u .0) in rw (same, used-back c xs (u .2))
-
-used-below : (c : ℕ) (xs : List ℕ) → Used c xs → (k : ℕ) → 0 < count k (map pred xs) → k < c
-unfolding weigh
-used-below c [] u k l = absurd (not-suc-le-zero l)
-used-below c (x ∷ xs) u k l =
-    by-same (pred x) k (λ same. omega (arith, u .0, u .1))
-    (λ other. used-below c xs (u .2) k (omega (arith, count-other (pred x) k other)))
-
-pub below-used : (c : ℕ) (ks : List ℕ) → ((k : ℕ) → 0 < count k ks → k < c) → Used c (cellsOf ks)
-unfolding weigh
-below-used c [] below = tt
-below-used c (k ∷ ks) below =
-    (omega arith, below k (omega (arith, count-same k)), below-used c ks (λ j l. below j (omega arith)))
-
-used-one : (c : ℕ) (xs : List ℕ) → Used c xs → (i : ℕ) → i < length xs → min 1 (getD xs i 0) ≡ 1
-used-one c [] u i l = absurd (not-suc-le-zero l)
-used-one c (x ∷ xs) u zero l = omega (arith, u .0)
-used-one c (x ∷ xs) u (suc i) l = used-one c xs (u .2) i (omega arith)
-
--- a row: its first cells are used, and as many as are not zero, so the others are zero
-
-module _ (c used : ℕ) (cells : List ℕ) (whole : length cells ≡ rowLength) where
-  abbrev ones : ℕ → ℕ
-  ones i = min 1 (getD cells i 0)
-
-  module _ (few : used ≤ rowLength) (u : Used c (take used cells)) where
-    front : sum used ones ≡ used
-    front =
-        sum-same used ones (λ i. 1)
-        (λ i l.
-        ap (min 1) (sym (getD-take used cells i 0 l))
-        ∙ used-one c (take used cells) u i (omega (arith, length-take-le used cells (omega arith))))
-        ∙ sum-ones used
-
-    pub rest-zero : cellsInUse cells ≡ used → (i : ℕ) → used ≤ i → getD cells i 0 ≡ 0
-    unfolding cellsInUse
-    rest-zero e i l =
-        by-less i rowLength (λ inside. omega (arith, front, sum-rest rowLength used i ones l inside))
-        (λ beyond. List·getD-eq-default cells 0 (omega arith))
-
-    pub zero-rest : ((i : ℕ) → used ≤ i → getD cells i 0 ≡ 0) → cellsInUse cells ≡ used
-    unfolding cellsInUse
-    zero-rest blank = sum-beyond rowLength used ones few (λ i l m. ap (min 1) (blank i l)) ∙ front
-
-    pub row-laid : cellsInUse cells ≡ used → cells ≡ padded rowLength (cellsOf (queueOf used cells))
-    row-laid e =
-        rw (used-back c (take used cells) u)
-        (sym (padded-is rowLength (take used cells) cells whole
-        (λ i l.
-        by-less i used (λ inside. getD-take used cells i 0 inside)
-        (λ beyond. List·getD-eq-default (take used cells) 0 (omega (arith, length-take-le used cells (omega arith)))
-        ∙ sym (rest-zero e i beyond)))))
+use Rattle.network.specs.Layout.{channelRoom, rowLength, row, queueOf}
+use Rattle.network.proofs.Cases.{by-same, by-test, by-option}
+use Rattle.network.proofs.Counting.{count-same, count-other, sum-add}
+use Rattle.network.proofs.Rows.{getD-blanks}
+use Rattle.soundness.specs.RowPass.{inBuffer, inLine, fresh, mark, cellsInUse, markRow, markRows, markAll}
+use Rattle.soundness.proofs.RowPass.{Fresh, decides-fresh, mark-fresh, no-table, same-table, row-right, row-wrong, afterBuffers, all-stop, all-more}
+use Rattle.soundness.proofs.UsedCells.{Used, RowUsed}
 
 -- the table after the cells of one row
 
@@ -176,14 +113,6 @@ pub record MetRows (first n : ℕ) (times : ℕ → ℕ → ℕ) (seen after : L
   pub kept : (k : ℕ) → 0 < getD seen k 0 → getD after k 0 ≡ getD seen k 0
   pub placed : (p k : ℕ) → p < n → 0 < times p k → getD after k 0 ≡ first + p
 
--- a row as it should be: so many cells are not zero, and they are the first
-pub record RowUsed (c used : ℕ) (cells : List ℕ) : Type 0 where
-  pub in-use : cellsInUse cells ≡ used
-  pub cells-used : Used c (take used cells)
-
-pub queue-below : {c used : ℕ} {cells : List ℕ} → RowUsed c used cells → (k : ℕ) → 0 < count k (queueOf used cells) → k < c
-queue-below {c} {used} {cells} u k l = used-below c (take used cells) (u .cells-used) k l
-
 module _ (c first : ℕ) (above : 1 ≤ first) (used cells : List ℕ) where
   abbrev pub rowAt : ℕ → List ℕ
   rowAt p = row rowLength cells p
@@ -262,13 +191,13 @@ module _ (n c : ℕ) (within : c ≤ channelRoom) (used waiting slots lines : Li
   abbrev pub lineAt : ℕ → List ℕ
   lineAt p = queueOf (getD waiting p 0) (row rowLength lines p)
 
-  abbrev pub timesOn : ℕ → ℕ
-  timesOn k = sum n (λ p. count k (bufferAt p) + count k (lineAt p))
+  abbrev pub timesIn : ℕ → ℕ
+  timesIn k = sum n (λ p. count k (bufferAt p) + count k (lineAt p))
 
-  pub record Table (places : List ℕ) : Type 0 where
+  pub record Places (places : List ℕ) : Type 0 where
     pub buffers-used : (p : ℕ) → p < n → RowUsed c (getD used p 0) (row rowLength slots p)
     pub lines-used : (p : ℕ) → p < n → RowUsed c (getD waiting p 0) (row rowLength lines p)
-    pub counted : (k : ℕ) → min 1 (getD places k 0) ≡ timesOn k
+    pub counted : (k : ℕ) → min 1 (getD places k 0) ≡ timesIn k
     pub in-buffer : (p k : ℕ) → p < n → 0 < count k (bufferAt p) → getD places k 0 ≡ inBuffer + p
     pub in-line : (p k : ℕ) → p < n → 0 < count k (lineAt p) → getD places k 0 ≡ inLine + p
 
@@ -278,10 +207,10 @@ module _ (n c : ℕ) (within : c ≤ channelRoom) (used waiting slots lines : Li
   blank-zero : (k : ℕ) → getD blank k 0 ≡ 0
   blank-zero k = getD-blanks channelRoom k 0
 
-  times-split : (k : ℕ) → timesOn k ≡ sum n (λ p. count k (bufferAt p)) + sum n (λ p. count k (lineAt p))
+  times-split : (k : ℕ) → timesIn k ≡ sum n (λ p. count k (bufferAt p)) + sum n (λ p. count k (lineAt p))
   times-split k = sum-add n (λ p. count k (bufferAt p)) (λ p. count k (lineAt p))
 
-  pub all-met : (places : List ℕ) → markAll n c used waiting slots lines ≡ some places → Table places
+  pub all-met : (places : List ℕ) → markAll n c used waiting slots lines ≡ some places → Places places
   all-met places e =
       by-option (afterBuffers n c used waiting slots lines) (λ h. absurd (no-table (all-stop n c used waiting slots lines h) e))
       (λ before h.
@@ -300,7 +229,7 @@ module _ (n c : ℕ) (within : c ≤ channelRoom) (used waiting slots lines : Li
       })
 
   pub all-pass : ((p : ℕ) → p < n → RowUsed c (getD used p 0) (row rowLength slots p)) →
-      ((p : ℕ) → p < n → RowUsed c (getD waiting p 0) (row rowLength lines p)) → ((k : ℕ) → timesOn k ≤ 1) →
+      ((p : ℕ) → p < n → RowUsed c (getD waiting p 0) (row rowLength lines p)) → ((k : ℕ) → timesIn k ≤ 1) →
       (places : List ℕ) × (markAll n c used waiting slots lines ≡ some places)
   all-pass in-buffers in-lines once =
       let buffers =
