@@ -22,7 +22,7 @@ use Rattle.tape.specs.Table.{Row, rowOf}
 use Rattle.tape.specs.Tape.{readAt, readRow}
 use Rattle.listing.specs.Line.{lineOf, endOf, tooLong}
 use Rattle.runner.specs.declared.Session.{Session}
-use Rattle.runner.specs.Calls.{callOf, stepRing}
+use Rattle.runner.specs.Calls.{commandStep}
 use Rattle.runner.specs.Session.{longest, beginning, ended, lastLine, answered, nextIn, next, lines, afterLines, allLines}
 use Rattle.network.specs.Sound.{oneMore}
 use Rattle.runner.specs.Listing.{byOne, listingOf, toCome, TooLongAlone, NothingAfter, LineByLine, NotCut}
@@ -73,7 +73,7 @@ module _ (up : ℕ → ℕ) (tape : List ℕ) where
 
   -- the same by cases, for a tape that is short enough and was read
   pub next-read : {s : Session} {r : Reading} {step : Step} {after : ℕ} → Reads tape s r → r .answer ≡ Read after
-      → step ≡ stepRing (callOf (r .command)) (s .ring) → next up tape s ≡ answered up tape s step after
+      → step ≡ commandStep (r .command) (s .ring) → next up tape s ≡ answered up tape s step after
   next-read {s} {r} h a e =
       next-after s r (h .short) (h .reading) ∙ ap (λ (x : ReadAnswer). nextIn up tape s x (r .command)) a ∙ rw e
 

@@ -13,10 +13,10 @@ use Rattle.wire.proofs.Buffer.{length-overwritten}
 use Rattle.listing.specs.Line.{lineRoom}
 use Rattle.runner.specs.declared.Session.{Session}
 use Rattle.runner.specs.declared.Progress.{Progress}
-use Rattle.runner.specs.Session.{Printed, next, lines, afterLines}
+use Rattle.runner.specs.Session.{next, lines, afterLines}
 use Rattle.network.specs.Sound.{oneMore}
 use Rattle.runner.specs.Listing.{toCome}
-use Rattle.runner.specs.Run.{Ran, Placed, Printing, finished, PrintsTheListing}
+use Rattle.runner.specs.Run.{Ran, Placed, Turned, Printing, finished, PrintsTheListing}
 use Rattle.runner.specs.Run
 use Rattle.runner.proofs.Lines.{nothing-after, line-by-line, some-line, last-session, last-line}
 use Rattle.runner.proofs.Counts.{from-the-beginning}
@@ -65,11 +65,6 @@ module _ {line : List ℕ} {at : ℕ} {before after : List ℕ} {end : ℕ} (p :
   as-long : length after ≡ length before
   as-long = rw (p .buffer) (length-overwritten before line at (omega (arith, p .ends, p .within)))
 
--- what was printed: the session after it, and its line put at a place of the buffer
-pub record Turned (printed : Printed) (at : ℕ) (before after : List ℕ) (s : Session) (end : ℕ) : Type 0 where
-  pub session : s ≡ printed .session
-  pub line : Placed (printed .line) at before after end
-
 module _ {tape before : List ℕ} {first : Session} {out : List ℕ} {s : Session} {at : ℕ} (h : SoFar tape before first out s at)
     (e : s .over ≡ false) {after : List ℕ} {s' : Session} {end : ℕ} (t : Turned (next oneMore tape s) at out after s' end) where
   abbrev size : ℕ
@@ -114,10 +109,10 @@ ran {at = at} h full = record {
   count = h .count;
   session = h .reached;
   printed = h .printed;
-  rest = h .rest;
-  within = h .within;
   full = full;
   forward = λ e r. by-same at 0 (λ z. omega (arith, full (h .start z ∙ e))) λ z. omega arith;
+  rest = h .rest;
+  within = h .within;
   text = h .text;
 }
 

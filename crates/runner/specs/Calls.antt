@@ -1,26 +1,24 @@
--- A command of the tape as a ring call, and what the ring answers to a call. Assumes nothing.
-use Rattle.batch.specs.declared.BatchRecord.{BatchRecord}
+-- The ring call of a command of the tape, and what the ring answers to a command. What a ring call is stands in `network`. Assumes nothing.
 use Rattle.network.specs.declared.Ring.{Ring}
+use Rattle.network.specs.declared.RingCall.{RingCall}
+use Rattle.network.specs.declared.RingCall.the-variants as ring
 use Rattle.network.specs.declared.Step.{Step}
-use Rattle.network.specs.Answers.{stepOf}
+use Rattle.network.specs.Answers.{callOf, stepOf}
 use Rattle.network.specs.Layout.{callRing}
-use Rattle.network.specs.Runs.{Call, addNode, addChannel, start, receive, send, enter, move}
 use Rattle.tape.specs.declared.Action.{Action}
 use Rattle.tape.specs.declared.Action.the-variants.{AddNode, AddChannel, Start, Receive, Send, Enter, Move}
 use Rattle.tape.specs.declared.Command.{Command}
 
-abbrev pub callIn : Action → BatchRecord → Call
-callIn (AddNode slots) x = addNode slots
-callIn (AddChannel sender receiver) x = addChannel sender receiver
-callIn Start x = start
-callIn (Receive channel) x = receive channel
-callIn (Send channel) x = send channel x
-callIn (Enter node) x = enter node
-callIn (Move node) x = move node
+-- the case of the ring calls that an action is; its operands are bytes, and become numbers of nodes and channels
+abbrev pub ringCall : Action → RingCall
+ringCall (AddNode slots) = ring.AddNode slots
+ringCall (AddChannel sender receiver) = ring.AddChannel (record { 0 = sender }) (record { 0 = receiver })
+ringCall Start = ring.Start
+ringCall (Receive channel) = ring.Receive (record { 0 = channel })
+ringCall (Send channel) = ring.Send (record { 0 = channel })
+ringCall (Enter node) = ring.Enter (record { 0 = node })
+ringCall (Move node) = ring.Move (record { 0 = node })
 
-abbrev pub callOf : Command → Call
-callOf c = callIn (c .action) (c .«record»)
-
--- the ring after a call, and its reply
-unfoldable pub stepRing : Call → Ring → Step
-stepRing a ring = stepOf ring (callRing a ring)
+-- the ring after a command, and the reply
+unfoldable pub commandStep : Command → Ring → Step
+commandStep c ring = stepOf ring (callRing (callOf (ringCall (c .action)) (c .«record»)) ring)

@@ -11,7 +11,7 @@ use Rattle.listing.specs.declared.Put.{Put}
 use Rattle.listing.specs.declared.Put.the-variants.{Written, NoRoom}
 use Rattle.runner.specs.declared.Session.{Session}
 use Rattle.runner.specs.declared.Progress.{Progress}
-use Rattle.runner.specs.Session.{beginning, lines, afterLines}
+use Rattle.runner.specs.Session.{Printed, beginning, lines, afterLines}
 use Rattle.network.specs.Sound.{oneMore}
 use Rattle.runner.specs.Listing.{listingOf, toCome}
 
@@ -44,6 +44,11 @@ pub record Placed (line : List ℕ) (at : ℕ) (before after : List ℕ) (end : 
   pub ends : end ≡ at + length line
   pub within : end ≤ length before
   pub buffer : after ≡ overwritten before at line
+
+-- what was printed: the session after it, and its line put at a place of the buffer
+pub record Turned (printed : Printed) (at : ℕ) (before after : List ℕ) (s : Session) (end : ℕ) : Type 0 where
+  pub session : s ≡ printed .session
+  pub line : Placed (printed .line) at before after end
 
 -- the place after what was put
 abbrev pub endOfPut : Put → ℕ → ℕ

@@ -16,7 +16,7 @@ use Rattle.tape.specs.declared.ReadAnswer.the-variants.{Read, End, Refused}
 use Rattle.tape.specs.Tape.{readAt}
 use Rattle.listing.specs.Line.{lineOf, endOf, tooLong}
 use Rattle.runner.specs.declared.Session.{Session}
-use Rattle.runner.specs.Calls.{callOf, stepRing}
+use Rattle.runner.specs.Calls.{commandStep}
 
 -- the longest tape that is run
 abbrev pub longest : ℕ
@@ -33,14 +33,8 @@ pub record Printed : Type 0 where
 
 -- the session after the last line, and the last line, whatever it says
 abbrev pub ended : Session → Session
-ended s = record {
-  ring = s .ring;
-  place = s .place;
-  number = s .number;
-  accepted = s .accepted;
-  refused = s .refused;
-  over = true;
-}
+ended s =
+    record { ring = s .ring; place = s .place; number = s .number; accepted = s .accepted; refused = s .refused; over = true }
 
 abbrev pub lastLine : List ℕ → Session → Printed
 lastLine line s = record { line = line; session = ended s }
@@ -67,7 +61,7 @@ module _ (up : ℕ → ℕ) where
   -- What is printed after a reading. A command that was read is called on the ring. One that the reader refuses has its line and
   -- counts as refused, and nothing further is read: the next place is the end of the tape. At the end comes the last line.
   abbrev pub nextIn : List ℕ → Session → ReadAnswer → Command → Printed
-  nextIn tape s (Read place) c = answered tape s (stepRing (callOf c) (s .ring)) place
+  nextIn tape s (Read place) c = answered tape s (commandStep c (s .ring)) place
   nextIn tape s (Refused r) c = answered tape s (stepOf (s .ring) (refused r)) (length tape)
   nextIn tape s End c = lastLine (endOf (s .accepted) (s .refused)) s
 

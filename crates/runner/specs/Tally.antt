@@ -8,10 +8,12 @@ use Rattle.network.specs.declared.Answer.{Answer}
 use Rattle.network.specs.declared.Ring.{Ring}
 use Rattle.runner.specs.declared.Session.{Session}
 use Rattle.runner.specs.declared.Tally.{Tally}
+use Rattle.runner.specs.declared.Line.{Line}
 use Rattle.runner.specs.declared.Turn.{Turn}
 use Rattle.network.specs.Answers.{isRefusal}
 use Rattle.network.specs.Sound.{oneMore}
-use Rattle.runner.specs.Run.{Placed}
+use Rattle.runner.specs.Session.{next}
+use Rattle.runner.specs.Run.{Placed, Turned}
 
 -- the session of a ring and a tally
 abbrev pub sessionOf : Ring → Tally → Session
@@ -23,6 +25,12 @@ sessionOf ring t = record {
   refused = t .refused;
   over = t .over;
 }
+
+-- where a run begins: the head and the tally of the session, and nothing written
+pub record Begun (s : Session) (turn : Turn) : Type 0 where
+  pub head : turn .head ≡ s .ring .head
+  pub session : sessionOf (s .ring) (turn .line .tally) ≡ s
+  pub none : turn .line .written ≡ 0
 
 -- the tally after the last line
 abbrev pub closedTally : Tally → Tally
@@ -39,6 +47,11 @@ countedTally t answer next = record {
 }
 
 -- what was told: a line put at a place of the buffer, and the tally after it
-pub record Told (text : List ℕ) (next : Tally) (at : ℕ) (before after : List ℕ) (turn : Turn) : Type 0 where
-  pub tally : turn .tally ≡ next
-  pub line : Placed text at before after (turn .written)
+pub record Told (text : List ℕ) (next : Tally) (at : ℕ) (before after : List ℕ) (l : Line) : Type 0 where
+  pub tally : l .tally ≡ next
+  pub line : Placed text at before after (l .written)
+
+-- from this ring and line, the next line of the session was put after it, and left that ring and line
+abbrev pub Went : List ℕ → Ring → Line → Ring → Line → List ℕ → List ℕ → Type 0
+Went tape ring l ring' l' before after =
+    Turned (next oneMore tape (sessionOf ring (l .tally))) (l .written) before after (sessionOf ring' (l' .tally)) (l' .written)

@@ -1,16 +1,17 @@
 // Runs a command tape: reads each command, calls the ring and writes the command's line of the listing into a lent buffer, as many
 // whole lines at a time as have room. A session is what is kept between two runs; it may be any value at all, so no run asks anything.
 use batch::BatchRecord;
+use calls::lent;
 use listing::Put;
 use network::Answer;
 use network::Cells;
 use network::ChannelNo;
 use network::Head;
-use network::HeadStep;
 use network::NodeNo;
 use network::Records;
 use network::Reply;
 use network::Ring;
+use network::RingCall;
 use refusal::Refusal;
 use tape::Action;
 use tape::Command;
@@ -21,12 +22,12 @@ ghost use lib.ListN.{length, getD};
 ghost use Rattle.network.specs.declared.Ring.{Ring};
 ghost use Rattle.network.specs.Answers.{replyOf, isRefusal};
 ghost use Rattle.network.specs.Calls;
-ghost use Rattle.network.specs.Layout.{ringIn, stepIn};
+ghost use Rattle.network.specs.Layout.{ringIn};
 ghost use Rattle.listing.specs.Line.{lineRoom, lineOf, endOf, tooLong};
-ghost use Rattle.runner.specs.Calls.{callOf, stepRing};
+ghost use Rattle.runner.specs.Calls.{ringCall};
 ghost use Rattle.runner.specs.Session.{beginning};
 ghost use Rattle.runner.specs.Run.{Ran, Placed, endOfPut};
-ghost use Rattle.runner.specs.Tally.{sessionOf, closedTally, countedTally, Told};
+ghost use Rattle.runner.specs.Tally.{sessionOf, Begun, closedTally, countedTally, Told, Went};
 
 // The longest tape that is run.
 pub const LONGEST_TAPE: usize = 60000;
@@ -61,9 +62,15 @@ struct Tally {
 }
 
 // The tally after a line, and how much of the lent buffer was written.
-struct Turn {
+struct Line {
     tally: Tally,
     written: usize,
+}
+
+// Where a run stands between two lines, but for the ring's cells and records, which are lent where they lie.
+struct Turn {
+    head: Head,
+    line: Line,
 }
 
 impl Session {
@@ -100,75 +107,18 @@ fn code_at(tape: &[u8], place: usize) -> u8
     if place < tape.len() { tape[place] } else { 0 }
 }
 
-// The ring call of a command, on a ring whose cells and records are lent.
-fn call(
-    head: Head,
-    slots: &mut Cells,
-    lines: &mut Cells,
-    offers: &mut Records,
-    carried: &mut Records,
-    command: Command,
-) -> HeadStep
-    ensures { λ r. ⌜ stepIn r (now (slots .exit)) (now (lines .exit)) (now (offers .exit)) (now (carried .exit))
-        ≡ stepRing (callOf command)
-        (ringIn head (now (slots .entry)) (now (lines .entry)) (now (offers .entry)) (now (carried .entry))) ⌝ }
+// The ring call of an action. Its operands are bytes; here they become numbers of nodes and channels.
+fn ring_call(action: Action) -> RingCall
+    ensures { λ r. ⌜ r ≡ ringCall action ⌝ }
 {
-    let action = command.action;
     match action {
-        Action::AddNode(capacity) => plan::lent::add_node(
-            head,
-            slots,
-            lines,
-            offers,
-            carried,
-            capacity,
-        ),
-        Action::AddChannel(sender, receiver) => plan::lent::add_channel(
-            head,
-            slots,
-            lines,
-            offers,
-            carried,
-            NodeNo(sender),
-            NodeNo(receiver),
-        ),
-        Action::Start => plan::lent::start(head, slots, lines, offers, carried),
-        Action::Receive(channel) => endpoints::lent::receive(
-            head,
-            slots,
-            lines,
-            offers,
-            carried,
-            ChannelNo(channel),
-        ),
-        Action::Send(channel) => {
-            let record = command.record;
-            endpoints::lent::send(
-                head,
-                slots,
-                lines,
-                offers,
-                carried,
-                ChannelNo(channel),
-                record,
-            )
-        }
-        Action::Enter(node) => traffic::lent::enter(
-            head,
-            slots,
-            lines,
-            offers,
-            carried,
-            NodeNo(node),
-        ),
-        Action::Move(node) => traffic::lent::move_on(
-            head,
-            slots,
-            lines,
-            offers,
-            carried,
-            NodeNo(node),
-        ),
+        Action::AddNode(slots) => RingCall::AddNode(slots),
+        Action::AddChannel(from, to) => RingCall::AddChannel(NodeNo(from), NodeNo(to)),
+        Action::Start => RingCall::Start,
+        Action::Receive(channel) => RingCall::Receive(ChannelNo(channel)),
+        Action::Send(channel) => RingCall::Send(ChannelNo(channel)),
+        Action::Enter(node) => RingCall::Enter(NodeNo(node)),
+        Action::Move(node) => RingCall::Move(NodeNo(node)),
     }
 }
 
@@ -220,10 +170,12 @@ fn put_too_long(out: &mut [u8], at: usize) -> usize
     end_of(put, at)
 }
 
-// Nothing written yet, and the tally of a session.
+// Nothing written yet, and the head and the tally of a session.
 fn first(session: Session) -> Turn
-    ensures { λ r. ⌜ (sessionOf (session .ring) (r .tally) ≡ session) × (r .written ≡ 0) ⌝ }
+    ensures { λ r. ⌜ Begun session r ⌝ }
 {
+    let ring = session.ring;
+    let head = ring.head;
     let tally = Tally {
         place: session.place,
         number: session.number,
@@ -231,14 +183,15 @@ fn first(session: Session) -> Turn
         refused: session.refused,
         over: session.over,
     };
-    Turn { tally, written: 0 }
+    let line = Line { tally, written: 0 };
+    Turn { head, line }
 }
 
 // The session of the ring and the tally that a run comes to, and how much was written.
-fn finish(ring: Ring, turn: Turn) -> Progress
-    ensures { λ r. ⌜ r ≡ record { session = sessionOf ring (turn .tally); written = turn .written } ⌝ }
+fn finish(ring: Ring, line: Line) -> Progress
+    ensures { λ r. ⌜ r ≡ record { session = sessionOf ring (line .tally); written = line .written } ⌝ }
 {
-    let tally = turn.tally;
+    let tally = line.tally;
     let session = Session {
         ring,
         place: tally.place,
@@ -249,7 +202,7 @@ fn finish(ring: Ring, turn: Turn) -> Progress
     };
     Progress {
         session,
-        written: turn.written,
+        written: line.written,
     }
 }
 
@@ -276,7 +229,7 @@ fn counted(mut tally: Tally, answer: Answer, next: usize) -> Tally
 }
 
 // The line of a command with this reply, and the tally after it.
-fn told(tape: &[u8], tally: Tally, reply: Reply, next: usize, out: &mut [u8], at: usize) -> Turn
+fn told(tape: &[u8], tally: Tally, reply: Reply, next: usize, out: &mut [u8], at: usize) -> Line
     requires { ⌜ at + lineRoom ≤ length (now out) ⌝ }
     ensures { λ r. ⌜ Told (lineOf (tally .number) (getD (now (tape .entry)) (tally .place) 0) reply)
         (countedTally tally (reply .answer) next) at (now (out .entry)) (now (out .exit)) r ⌝ }
@@ -285,27 +238,76 @@ fn told(tape: &[u8], tally: Tally, reply: Reply, next: usize, out: &mut [u8], at
     let written = put_line(out, at, tally.number, code, reply);
     let answer = reply.answer;
     let tally = counted(tally, answer, next);
-    Turn { tally, written }
+    Line { tally, written }
 }
 
 // The last line of a tape that was run, and the tally after it.
-fn last(tally: Tally, out: &mut [u8], at: usize) -> Turn
+fn last(tally: Tally, out: &mut [u8], at: usize) -> Line
     requires { ⌜ at + lineRoom ≤ length (now out) ⌝ }
     ensures { λ r. ⌜ Told (endOf (tally .accepted) (tally .refused)) (closedTally tally) at (now (out .entry)) (now (out .exit)) r ⌝ }
 {
     let written = put_end(out, at, tally.accepted, tally.refused);
     let tally = closed(tally);
-    Turn { tally, written }
+    Line { tally, written }
 }
 
 // The only line of a tape that is too long, and the tally after it.
-fn too_long(tally: Tally, out: &mut [u8], at: usize) -> Turn
+fn too_long(tally: Tally, out: &mut [u8], at: usize) -> Line
     requires { ⌜ at + lineRoom ≤ length (now out) ⌝ }
     ensures { λ r. ⌜ Told tooLong (closedTally tally) at (now (out .entry)) (now (out .exit)) r ⌝ }
 {
     let written = put_too_long(out, at);
     let tally = closed(tally);
-    Turn { tally, written }
+    Line { tally, written }
+}
+
+// The next line of a session, and the ring after it: what the line says goes by the tape's length and by what is read at its place.
+fn next_line(
+    tape: &[u8],
+    turn: Turn,
+    slots: &mut Cells,
+    lines: &mut Cells,
+    offers: &mut Records,
+    carried: &mut Records,
+    out: &mut [u8],
+) -> Turn
+    requires { ⌜ turn .line .written + lineRoom ≤ length (now out) ⌝ }
+    ensures { λ r. ⌜ Went (now (tape .entry))
+        (ringIn (turn .head) (now (slots .entry)) (now (lines .entry)) (now (offers .entry)) (now (carried .entry))) (turn .line)
+        (ringIn (r .head) (now (slots .exit)) (now (lines .exit)) (now (offers .exit)) (now (carried .exit))) (r .line)
+        (now (out .entry)) (now (out .exit)) ⌝ }
+{
+    let head = turn.head;
+    let tally = turn.line.tally;
+    let at = turn.line.written;
+    if LONGEST_TAPE < tape.len() {
+        let line = too_long(tally, out, at);
+        return Turn { head, line };
+    }
+    let reading = tape::read(tape, tally.place);
+    let answer = reading.answer;
+    match answer {
+        ReadAnswer::Read { next } => {
+            let command = reading.command;
+            let action = command.action;
+            let record = command.record;
+            let call = ring_call(action);
+            let called = lent::perform(head, slots, lines, offers, carried, call, record);
+            let reply = called.reply;
+            let line = told(tape, tally, reply, next, out, at);
+            let head = called.head;
+            Turn { head, line }
+        }
+        ReadAnswer::End => {
+            let line = last(tally, out, at);
+            Turn { head, line }
+        }
+        ReadAnswer::Refused(refusal) => {
+            let reply = refuse(refusal);
+            let line = told(tape, tally, reply, tape.len(), out, at);
+            Turn { head, line }
+        }
+    }
 }
 
 // Runs the tape on from a session: whole lines into the buffer, as long as there is room for any line and one to come. A caller runs
@@ -314,48 +316,27 @@ pub fn run(tape: &[u8], session: Session, out: &mut [u8]) -> Progress
     ensures { λ r. ⌜ Ran (now (tape .entry)) session (now (out .entry)) (now (out .exit)) r ⌝ }
 {
     let ring = session.ring;
-    let mut head = ring.head;
     let mut slots = ring.slots;
     let mut lines = ring.lines;
     let mut offers = ring.offers;
     let mut carried = ring.carried;
     let mut turn = first(session);
-    while !turn.tally.over {
-        let tally = turn.tally;
-        let at = turn.written;
-        if out.len() - at < listing::LINE_ROOM {
+    while !turn.line.tally.over {
+        if out.len() - turn.line.written < listing::LINE_ROOM {
             break;
         }
-        if LONGEST_TAPE < tape.len() {
-            turn = too_long(tally, out, at);
-            continue;
-        }
-        let reading = tape::read(tape, tally.place);
-        let answer = reading.answer;
-        match answer {
-            ReadAnswer::Read { next } => {
-                let command = reading.command;
-                let called = call(
-                    head,
-                    &mut slots,
-                    &mut lines,
-                    &mut offers,
-                    &mut carried,
-                    command,
-                );
-                head = called.head;
-                let reply = called.reply;
-                turn = told(tape, tally, reply, next, out, at);
-            }
-            ReadAnswer::End => {
-                turn = last(tally, out, at);
-            }
-            ReadAnswer::Refused(refusal) => {
-                let reply = refuse(refusal);
-                turn = told(tape, tally, reply, tape.len(), out, at);
-            }
-        }
+        turn = next_line(
+            tape,
+            turn,
+            &mut slots,
+            &mut lines,
+            &mut offers,
+            &mut carried,
+            out,
+        );
     }
+    let head = turn.head;
+    let line = turn.line;
     let after = Ring {
         head,
         slots,
@@ -363,5 +344,5 @@ pub fn run(tape: &[u8], session: Session, out: &mut [u8]) -> Progress
         offers,
         carried,
     };
-    finish(after, turn)
+    finish(after, line)
 }

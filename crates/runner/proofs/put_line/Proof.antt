@@ -4,10 +4,8 @@ use Rattle.runner.proofs.Put.{placed}
 use Rattle.runner.proofs.put_line.Statement.{statement}
 use Rattle.runner.proofs.put_line.Tie as tie
 
-returns : tie.Need-returns
-returns c =
-    let put = c .before .before .before in
-    placed _ _ _ _ _ _ (put .before .before .before .pre) (put .write-line .ensures) (c .end-of .ensures)
-
 pub put-line-spec : {M : Type 1} → statement M
-put-line-spec = tie.close (tie.spec (λ c κs. search needs) (λ c κs. search needs) (λ c. search needs) returns)
+put-line-spec =
+    tie.close
+    (tie.spec (λ c κs. search needs) (λ c κs. search needs) (λ c. search needs)
+    (λ c. let put = c .before .before .before in placed _ _ _ _ _ _ (put .before .before .before .pre) (put .write-line .ensures) (c .end-of .ensures)))

@@ -1,0 +1,59 @@
+// Any ring call on a ring whose cells and records are lent: takes the head by value and answers the head after the call, with the reply.
+use batch::BatchRecord;
+use endpoints::lent::receive;
+use endpoints::lent::send;
+use network::Answer;
+use network::Cells;
+use network::Head;
+use network::HeadStep;
+use network::Records;
+use network::Reply;
+use network::RingCall;
+use plan::lent::add_channel;
+use plan::lent::add_node;
+use plan::lent::start;
+use questions::lent::hops_left;
+use questions::lent::waiting_set;
+use traffic::lent::enter;
+use traffic::lent::move_on;
+ghost use mathlib.Core.Path.{_≡_};
+ghost use Rattle.batch.specs.Blank.{noRecord};
+ghost use Rattle.network.specs.Answers.{callOf, stepOf};
+ghost use Rattle.network.specs.Layout.{callRing, ringIn, stepIn};
+
+// A question leaves the ring as it is, and no record stands beside its answer.
+fn asked(head: Head, answer: Answer) -> HeadStep
+    ensures { λ r. ⌜ r ≡ record { head = head; reply = record { answer = answer; delivered = noRecord } } ⌝ }
+{
+    let delivered = BatchRecord::none();
+    let reply = Reply { answer, delivered };
+    HeadStep { head, reply }
+}
+
+// The call, with the record of a send beside it.
+pub fn perform(
+    head: Head,
+    slots: &mut Cells,
+    lines: &mut Cells,
+    offers: &mut Records,
+    carried: &mut Records,
+    call: RingCall,
+    record: BatchRecord,
+) -> HeadStep
+    ensures { λ r. ⌜ stepIn r (now (slots .exit)) (now (lines .exit)) (now (offers .exit)) (now (carried .exit))
+        ≡ stepOf (ringIn head (now (slots .entry)) (now (lines .entry)) (now (offers .entry)) (now (carried .entry)))
+        (callRing (callOf call «record»)
+        (ringIn head (now (slots .entry)) (now (lines .entry)) (now (offers .entry)) (now (carried .entry)))) ⌝ }
+{
+    match call {
+        RingCall::AddNode(n) => add_node(head, slots, lines, offers, carried, n),
+        RingCall::AddChannel(p, q) => add_channel(head, slots, lines, offers, carried, p, q),
+        RingCall::Start => start(head, slots, lines, offers, carried),
+        RingCall::Receive(k) => receive(head, slots, lines, offers, carried, k),
+        RingCall::Send(k) => send(head, slots, lines, offers, carried, k, record),
+        RingCall::Enter(p) => enter(head, slots, lines, offers, carried, p),
+        RingCall::Move(p) => move_on(head, slots, lines, offers, carried, p),
+        RingCall::HopsLeft(k) => asked(head, hops_left(head, slots, lines, offers, carried, k)),
+        RingCall::WaitingSet(p) => asked(head, waiting_set(head, slots, lines, offers, carried, p)),
+    }
+}
