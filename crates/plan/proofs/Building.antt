@@ -19,7 +19,7 @@ use Rattle.network.specs.Layout.{ringLimits, nodeRoom, channelRoom, view, hold,
 use Rattle.network.proofs.Counting.{sum-same, sum-beyond}
 use Rattle.network.proofs.Memory.{SoundRing, sound-ring, no-node}
 use Rattle.network.proofs.Changes.{planned, withHead, hold-with-new-node, hold-with-new-channel, hold-with-started}
-use Rattle.change.proofs.Opening.{sound-called, running, idle}
+use Rattle.change.proofs.Openings.{sound-called, running, idle}
 
 module _ (ring : Ring) (ok : soundRing ring ≡ true) where
   known : SoundRing ring

@@ -5,7 +5,7 @@ use borrow.Author.Needs.{needs}
 use Rattle.network.specs.declared.Ring.{Ring}
 use Rattle.network.specs.Runs
 use Rattle.network.specs.Layout.{ringIn, soundRing}
-use Rattle.change.proofs.Opening.{turned-down, passed-test, unsound-refused, refuses, accepts}
+use Rattle.change.proofs.Openings.{turned-down, passed-test, unsound-refused, refuses, accepts}
 use Rattle.plan.proofs.Building.{add-channel-started, add-channel-full, add-channel-no-sender, add-channel-no-receiver, add-channel-done}
 use Rattle.plan.proofs.lent.add_channel.Statement.{statement}
 use Rattle.plan.proofs.lent.add_channel.Tie as tie

@@ -5,7 +5,7 @@ use borrow.Author.Needs.{needs}
 use Rattle.network.specs.declared.Ring.{Ring}
 use Rattle.network.specs.Runs
 use Rattle.network.specs.Layout.{ringIn, soundRing}
-use Rattle.change.proofs.Opening.{turned-down, passed-test, unsound-refused, refuses, accepts}
+use Rattle.change.proofs.Openings.{turned-down, passed-test, unsound-refused, refuses, accepts}
 use Rattle.plan.proofs.Building.{start-started, start-no-node, start-no-channel, start-too-few, start-done}
 use Rattle.plan.proofs.lent.start.Statement.{statement}
 use Rattle.plan.proofs.lent.start.Tie as tie
