@@ -154,12 +154,10 @@ is-open : (o : Opening) → OneOf (0 ∷ []) (tagOf the-type o) → o ≡ Open
 is-open Open k = refl
 is-open (Refused r) k = absurd (miss (0 ∷ []) 1 tt k)
 
-pub not-refused : {o e : Opening} → o ≡ e → OneOf (0 ∷ []) (tagOf the-type o) → e ≡ Open
-not-refused {o} same k = sym same ∙ is-open o k
-
 module _ (ring : Ring) where
-  sound-open : (subject : Subject) → openingOf ring subject ≡ Open → (soundRing ring ≡ true) × (soundOpening ring subject ≡ Open)
-  sound-open subject = test-open (soundRing ring) UnsoundRing (soundOpening ring subject)
+  sound-open : (subject : Subject) {o : Opening} → o ≡ openingOf ring subject → OneOf (0 ∷ []) (tagOf the-type o) →
+      (soundRing ring ≡ true) × (soundOpening ring subject ≡ Open)
+  sound-open subject {o} same told = test-open (soundRing ring) UnsoundRing (soundOpening ring subject) (sym same ∙ is-open o told)
 
   going-open : (count k : ℕ) (none : Refusal) → afterStart (ring .head .started) count k none ≡ Open →
       (ring .head .started ≢ 0) × (k < count)
@@ -168,26 +166,26 @@ module _ (ring : Ring) where
       let there = test-open (ltb k count) none Open (going .1) in
       (λ still. both-ways (going .0) (rw still), ltb-true k count (there .0))
 
-  pub plan-open : openingOf ring Plan ≡ Open → Planned ring
-  plan-open e =
-      let sound = sound-open Plan e in
+  pub plan-open : {o : Opening} → o ≡ openingOf ring Plan → OneOf (0 ∷ []) (tagOf the-type o) → Planned ring
+  plan-open same told =
+      let sound = sound-open Plan same told in
       let waits = test-open (not (begun (ring .head .started))) AlreadyStarted Open (sound .1) in
       record { ok = sound .0; still = by-same (ring .head .started) 0 (λ e. e) (λ d. both-ways (waits .0) (rw (ne-eqb _ 0 d))) }
 
-  pub channel-open : {k : ChannelNo} → openingOf ring (Channel k) ≡ Open → AtChannel ring (k .0)
-  channel-open {k} e =
-      let sound = sound-open (Channel k) e in
+  pub channel-open : {k : ChannelNo} {o : Opening} → o ≡ openingOf ring (Channel k) → OneOf (0 ∷ []) (tagOf the-type o) → AtChannel ring (k .0)
+  channel-open {k} same told =
+      let sound = sound-open (Channel k) same told in
       let rest = going-open (ring .head .«channel_count») (k .0) NoSuchChannel (sound .1) in
       record { ok = sound .0; going = rest .0; there = rest .1 }
 
-  pub node-open : {p : NodeNo} → openingOf ring (Node p) ≡ Open → AtNode ring (p .0)
-  node-open {p} e =
-      let sound = sound-open (Node p) e in
+  pub node-open : {p : NodeNo} {o : Opening} → o ≡ openingOf ring (Node p) → OneOf (0 ∷ []) (tagOf the-type o) → AtNode ring (p .0)
+  node-open {p} same told =
+      let sound = sound-open (Node p) same told in
       let rest = going-open (ring .head .«node_count») (p .0) NoSuchNode (sound .1) in
       record { ok = sound .0; going = rest .0; there = rest .1 }
 
-  pub tasks-open : {p : NodeNo} → openingOf ring (Tasks p) ≡ Open → AskedAt ring (p .0)
-  tasks-open {p} e =
-      let sound = sound-open (Tasks p) e in
+  pub tasks-open : {p : NodeNo} {o : Opening} → o ≡ openingOf ring (Tasks p) → OneOf (0 ∷ []) (tagOf the-type o) → AskedAt ring (p .0)
+  tasks-open {p} same told =
+      let sound = sound-open (Tasks p) same told in
       let there = test-open (ltb (p .0) (ring .head .«node_count»)) NoSuchNode Open (sound .1) in
       record { ok = sound .0; there = ltb-true _ _ (there .0) }
