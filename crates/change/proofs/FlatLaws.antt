@@ -3,14 +3,13 @@
 use Prim.Native.Nat.{ℕ, suc, _+_, _-_, _*_, _≤_, _<_, min}
 use mathlib.Core.Path.{_≡_, refl, sym, ap, _∙_}
 use mathlib.Core.Bool.{Bool, true, false, cond, _||_}
-use mathlib.Core.List.{List, [], _∷_, _++_}
+use mathlib.Core.List.{List, [], _∷_, _++_, append-assoc}
 use mathlib.Core.Option.{Option, none, some}
 use native.Mathlib.Nat.{add-zero}
-use native.Mathlib.Numerals.{add-one}
 use native.Mathlib.Omega.{arith}
 use lib.Dec.{ltb}
-use lib.ListN.{length, getD, set, length-append, length-set}
-use lib.Seq.{getD-set-same}
+use lib.ListN.{length, getD, set, take, drop, replicate, length-append, length-set, replicate-append-replicate}
+use lib.Seq.{take-at, drop-at, drop-drop, getD-set-same}
 use borrow.Author.Tests.{lt-ltb}
 use Rattle.batch.specs.declared.BatchRecord.{BatchRecord}
 use Rattle.batch.specs.Blank.{noRecord}
@@ -18,22 +17,48 @@ use Rattle.wire.specs.Record.{recordLength, RecordFits}
 use Rattle.network.specs.Counting.{one, occupied}
 use Rattle.network.specs.Network.{Network, NodeState, ChannelState, Phase, resting, asking, ready, answering, nodeCount, channelCount, noNode, noChannel, node, channel, withNode, withChannel}
 use Rattle.network.specs.Sound.{oneMore}
-use Rattle.network.specs.Calls.{joinLine, respond, deliver, leave, pass}
-use Rattle.network.specs.Layout.{nodeRoom, channelRoom, rowLength, row, padded, rows, cellsOf, phaseCode, offeredFlag, offerBytes, carriedBytes, byNode, byChannel, holdHead, hold, withDeliveries, ringIn}
-use Rattle.network.proofs.Rows.{getD-padded, row-end, getD-row, putRow, put-push, cells-pop}
+use Rattle.network.specs.Calls.{joinLine, deliver, leave, pass}
+use Rattle.network.specs.Layout.{nodeRoom, channelRoom, rowLength, cellRoom, row, padded, rows, cellsOf, phaseCode, offeredFlag, offerBytes, carriedBytes, byNode, byChannel, holdHead, hold, withDeliveries, ringIn}
+use Rattle.network.proofs.Rows.{map-append, getD-padded, padded-more, length-cells, row-end, getD-row, putRow, put-push}
 use Rattle.network.proofs.Memory.{Fits, OfferFits, CarriedFits, HeldNode, HeldChannel, held, held-node, held-channel}
-use Rattle.network.proofs.Changes.{numbers, cells, numbers-set, numbers-left, cells-set, cells-left, hold-with-node, hold-with-channel, fits-with-channel}
-use Rattle.change.specs.Flat.{appended, shifted, recorded, senderAt, receiverAt, joined, left, entered, passed, phased, offered, withdrawn, answered, rested, responded, handedOut}
-use Rattle.change.specs.Known.{CanJoin, CanRespond}
+use Rattle.network.proofs.Changes.{numbers, cells, numbers-set, numbers-left, cells-set, cells-left, hold-with-node, hold-with-channel}
+use Rattle.change.specs.Flat.{appended, cutRow, cutAt, joined, left, entered, passed, phased, offered, withdrawn, answered, rested, handedOut}
 use Rattle.change.proofs.Records.{recorded-row, cleared-row}
 
 -- rows
 
--- the first leaves the queue of a row
-shifted-put : (rs : List ℕ) (p k : ℕ) (ks : List ℕ) → row rowLength rs p ≡ padded rowLength (cellsOf (k ∷ ks)) → length ks < rowLength →
-    shifted rs p ≡ putRow rowLength rs p (cellsOf ks)
+-- one message is cut out of the queue of a row: those before it, and those behind it
+module _ (n : ℕ) (front : List ℕ) (k : ℕ) (back : List ℕ) (l : length front + length back < n) where
+  cells-cut : padded n (cellsOf (front ++ back)) ≡ cutRow (padded n (cellsOf (front ++ (k ∷ back)))) (length front)
+  cells-cut =
+      let blanks : ℕ = n - (length front + length back + 1) in
+      let rest : List ℕ = cellsOf back ++ replicate blanks 0 in
+      let fits : length (cellsOf (front ++ (k ∷ back))) + blanks ≡ n =
+      ap (λ m. m + blanks) (length-cells (front ++ (k ∷ back)) ∙ length-append front (k ∷ back)) ∙ omega arith in
+      let fits′ : length (cellsOf (front ++ back)) + (blanks + 1) ≡ n =
+      ap (λ m. m + (blanks + 1)) (length-cells (front ++ back) ∙ length-append front back) ∙ omega arith in
+      let before : padded n (cellsOf (front ++ (k ∷ back))) ≡ cellsOf front ++ (suc k ∷ rest) =
+      padded-more n blanks (cellsOf (front ++ (k ∷ back))) fits
+      ∙ ap (λ xs. xs ++ replicate blanks 0) (map-append suc front (k ∷ back))
+      ∙ append-assoc (cellsOf front) (suc k ∷ cellsOf back) (replicate blanks 0) in
+      let first-part : take (length front) (cellsOf front ++ (suc k ∷ rest)) ≡ cellsOf front =
+      take-at (cellsOf front) (suc k ∷ rest) (length front) (length-cells front) in
+      let last-part : drop (length front + 1) (cellsOf front ++ (suc k ∷ rest)) ≡ rest =
+      sym (drop-drop 1 (length front) (cellsOf front ++ (suc k ∷ rest)))
+      ∙ ap (drop 1) (drop-at (cellsOf front) (suc k ∷ rest) (length front) (length-cells front)) in
+      padded-more n (blanks + 1) (cellsOf (front ++ back)) fits′
+      ∙ ap (λ xs. xs ++ replicate (blanks + 1) 0) (map-append suc front back)
+      ∙ append-assoc (cellsOf front) (cellsOf back) (replicate (blanks + 1) 0)
+      ∙ ap (λ r. cellsOf front ++ (cellsOf back ++ r)) (sym (replicate-append-replicate {A = ℕ} blanks 1 0))
+      ∙ ap (λ r. cellsOf front ++ r) (sym (append-assoc (cellsOf back) (replicate blanks 0) (0 ∷ [])))
+      ∙ (λ i. sym first-part i ++ (sym last-part i ++ (0 ∷ [])))
+      ∙ ap (λ r. cutRow r (length front)) (sym before)
+
+pub cut-put : (rs : List ℕ) (p : ℕ) (front : List ℕ) (k : ℕ) (back : List ℕ) →
+    row rowLength rs p ≡ padded rowLength (cellsOf (front ++ (k ∷ back))) → length front + length back < rowLength →
+    cutAt rs p (length front) ≡ putRow rowLength rs p (cellsOf (front ++ back))
 unfolding putRow
-shifted-put rs p k ks e l = rw (e, ← cells-pop rowLength k ks l)
+cut-put rs p front k back e l = rw (e, ← cells-cut rowLength front k back l)
 
 -- the first cell of a row says the first of its queue
 pub first-cell : (rs : List ℕ) (p k : ℕ) (ks : List ℕ) → row rowLength rs p ≡ padded rowLength (cellsOf (k ∷ ks)) →
@@ -53,14 +78,6 @@ mark-passed true [] = refl
 mark-passed false [] = refl
 mark-passed true (y ∷ ys) = rw (lt-ltb 0 (suc (length ys)) (omega arith))
 mark-passed false (y ∷ ys) = rw (lt-ltb 0 (suc (length ys)) (omega arith))
-
--- where a message has joined a line there was room for it
-pub joined-room : (σ : Network) (p k : ℕ) → p < nodeCount σ → Fits (joinLine p k σ) → length (node σ p .line) < rowLength
-joined-room σ p k l fits =
-    let s : NodeState =
-    record { slots = node σ p .slots; buffer = node σ p .buffer; line = node σ p .line ++ (k ∷ []); mark = node σ p .mark } in
-    let now : node (joinLine p k σ) p ≡ s = getD-set-same (σ .nodes) p s noNode l in
-    omega (arith, ap (λ t. length (t .line)) now, length-append (node σ p .line) (k ∷ []), fits .line-fits p (rw length-set l))
 
 module _ (σ : Network) (fits : Fits σ) where
   -- one node and its rows are changed
@@ -90,23 +107,16 @@ module _ (σ : Network) (fits : Fits σ) where
     same s f e = cells-left noNode nodeRoom (σ .nodes) p s l rowLength f e
 
     -- a cell after the used ones
+    pushed : (rs xs : List ℕ) (k : ℕ) {used : ℕ} → length rs ≡ cellRoom → row rowLength rs p ≡ padded rowLength (cellsOf xs) →
+        used ≡ length xs → length xs < rowLength → putRow rowLength rs p (cellsOf (xs ++ (k ∷ []))) ≡ appended rs p used (suc k)
+    pushed rs xs k whole e count room =
+        put-push rowLength rs p xs k (rw whole (row-end rowLength nodeRoom p inside)) e room
+        ∙ ap (λ u. appended rs p u (suc k)) (sym count)
+
     pushed-buffer : (k : ℕ) → length (node σ p .buffer) < rowLength →
         putRow rowLength (hold σ .slots) p (cellsOf (node σ p .buffer ++ (k ∷ [])))
         ≡ appended (hold σ .slots) p (getD (hold σ .head .used) p 0) (suc k)
-    pushed-buffer k room =
-        put-push rowLength (hold σ .slots) p (node σ p .buffer) k (rw (held σ .slots-whole) (row-end rowLength nodeRoom p inside))
-        (here .buffer-row)
-        room
-        ∙ ap (λ u. appended (hold σ .slots) p u (suc k)) (sym (here .used))
-
-    pushed-line : (k : ℕ) → length (node σ p .line) < rowLength →
-        putRow rowLength (hold σ .lines) p (cellsOf (node σ p .line ++ (k ∷ [])))
-        ≡ appended (hold σ .lines) p (getD (hold σ .head .waiting) p 0) (suc k)
-    pushed-line k room =
-        put-push rowLength (hold σ .lines) p (node σ p .line) k (rw (held σ .lines-whole) (row-end rowLength nodeRoom p inside))
-        (here .line-row)
-        room
-        ∙ ap (λ u. appended (hold σ .lines) p u (suc k)) (sym (here .waiting))
+    pushed-buffer k = pushed (hold σ .slots) (node σ p .buffer) k (held σ .slots-whole) (here .buffer-row) (here .used)
 
     -- one more, and one less
     more : (xs : List ℕ) (k : ℕ) {n : ℕ} → n ≡ length xs → length (xs ++ (k ∷ [])) ≡ n + 1
@@ -124,7 +134,8 @@ module _ (σ : Network) (fits : Fits σ) where
         (stored _ (λ s. length (s .line)) (more (node σ p .line) k (here .waiting)))
         (kept _ (λ s. one (s .mark)) refl)
         (same _ (λ s. cellsOf (s .buffer)) refl)
-        (put _ (λ s. cellsOf (s .line)) (pushed-line k room)))
+        (put _ (λ s. cellsOf (s .line))
+        (pushed (hold σ .lines) (node σ p .line) k (held σ .lines-whole) (here .line-row) (here .waiting) room)))
 
     pub left-held : (k : ℕ) (ks : List ℕ) → node σ p .buffer ≡ k ∷ ks → left (hold σ) p ≡ hold (leave p ks σ)
     unfolding hold holdHead
@@ -136,7 +147,7 @@ module _ (σ : Network) (fits : Fits σ) where
         (kept _ (λ s. length (s .line)) refl)
         (kept _ (λ s. one (s .mark)) refl)
         (put _ (λ s. cellsOf (s .buffer))
-        (sym (shifted-put (hold σ .slots) p k ks (here .buffer-row ∙ ap (λ xs. padded rowLength (cellsOf xs)) e) (omega arith))))
+        (sym (cut-put (hold σ .slots) p [] k ks (here .buffer-row ∙ ap (λ xs. padded rowLength (cellsOf xs)) e) (omega arith))))
         (same _ (λ s. cellsOf (s .line)) refl))
 
     pub entered-held : (k : ℕ) (ks : List ℕ) → node σ p .line ≡ k ∷ ks → length (node σ p .buffer) < rowLength →
@@ -153,7 +164,7 @@ module _ (σ : Network) (fits : Fits σ) where
         (stored _ (λ s. length (s .line)) (less k ks (here .waiting) e))
         (stored _ (λ s. one (s .mark)) refl)
         (put _ (λ s. cellsOf (s .buffer)) (pushed-buffer k room))
-        (put _ (λ s. cellsOf (s .line)) (sym (shifted-put (hold σ .lines) p k ks line-row (omega arith))))))
+        (put _ (λ s. cellsOf (s .line)) (sym (cut-put (hold σ .lines) p [] k ks line-row (omega arith))))))
 
     pub passed-held : (k : ℕ) → length (node σ p .buffer) < rowLength → passed (hold σ) p (suc k) ≡ hold (pass p k σ)
     unfolding hold holdHead
@@ -253,55 +264,3 @@ module _ (σ : Network) (fits : Fits σ) where
     handed-out-held =
         ap (λ r. ringIn (withDeliveries (r .head) (oneMore (σ .deliveries))) (r .slots) (r .lines) (r .offers) (r .carried))
         rested-held
-
--- a message joins a line after a change of its channel
-
-joined-next : (σ : Network) (fits : Fits σ) (p k : ℕ) → p < nodeCount σ → Fits (joinLine p k σ) →
-    joined (hold σ) p (k + 1) ≡ hold (joinLine p k σ)
-joined-next σ fits p k l next = ap (joined (hold σ) p) (add-one k) ∙ joined-held σ fits p l k (joined-room σ p k l next)
-
--- what the code asks before it puts a message into the line of p
-can-join : (σ : Network) (fits : Fits σ) (p : ℕ) → p < nodeCount σ → length (node σ p .line) < rowLength → CanJoin (hold σ .head) p
-can-join σ fits p l free =
-    let inside : p < nodeRoom = omega (arith, fits .nodes-fit) in
-    record { there = inside; room = rw (held-node σ p inside .waiting) free }
-
-module _ (σ : Network) (fits : Fits σ) (k : ℕ) (l : k < channelCount σ) where
-  here-in : HeldChannel (hold σ) σ k
-  here-in = held-channel σ k (omega (arith, fits .channels-fit))
-
-  module _ (there : channel σ k .receiver < nodeCount σ) (rests : channel σ k .phase ≡ resting)
-      (next : Fits (joinLine (channel σ k .receiver) k (withChannel k asking (channel σ k .offer) σ))) where
-    asked-fits : Fits (withChannel k asking (channel σ k .offer) σ)
-    asked-fits = fits-with-channel σ fits k asking (channel σ k .offer) l (fits .offer-fits k l) tt
-
-    pub asked-held : joined (phased (hold σ) k 1) (receiverAt (hold σ .head) k) (k + 1)
-        ≡ hold (joinLine (channel σ k .receiver) k (withChannel k asking (channel σ k .offer) σ))
-    asked-held =
-        ap (λ r. joined r (receiverAt (hold σ .head) k) (k + 1)) (phased-held σ fits k l asking (rw rests))
-        ∙ ap (λ p. joined (hold (withChannel k asking (channel σ k .offer) σ)) p (k + 1)) (here-in .receiver)
-        ∙ joined-next _ asked-fits _ k there next
-
-    pub asked-room : CanJoin (hold σ .head) (receiverAt (hold σ .head) k)
-    asked-room =
-        rw (here-in .receiver)
-        (can-join σ fits _ there (joined-room (withChannel k asking (channel σ k .offer) σ) _ k there next))
-
-  module _ (x : BatchRecord) (fit : RecordFits x) (bare : channel σ k .offer ≡ none) (there : channel σ k .sender < nodeCount σ)
-      (next : Fits (respond k x σ)) where
-    answered-fits : Fits (withChannel k (answering x) none σ)
-    answered-fits = fits-with-channel σ fits k (answering x) none l tt fit
-
-    pub responded-held : responded (hold σ) k x ≡ hold (respond k x σ)
-    responded-held =
-        ap (λ r. joined r (senderAt (hold σ .head) k) (k + 1))
-        (answered-held σ fits k l x fit ∙ ap (λ o. hold (withChannel k (answering x) o σ)) bare)
-        ∙ ap (λ p. joined (hold (withChannel k (answering x) none σ)) p (k + 1)) (here-in .sender)
-        ∙ joined-next _ answered-fits _ k there next
-
-    pub responded-room : CanRespond (hold σ .head) k
-    responded-room =
-        record {
-          known = omega (arith, fits .channels-fit);
-          line = rw (here-in .sender) (can-join σ fits _ there (joined-room (withChannel k (answering x) none σ) _ k there next));
-        }

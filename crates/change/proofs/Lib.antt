@@ -2,5 +2,6 @@
 pub mod Rows
 pub mod Records
 pub mod FlatLaws
-pub mod Opening
+pub mod Openings
+pub mod Messages
 pub mod Reading

@@ -17,7 +17,7 @@ use Rattle.network.proofs.Cases.{by-phase, by-option, both-ways}
 use Rattle.network.proofs.Memory.{SoundRing, sound-ring, HeldNode, HeldChannel, phase-read, offer-read}
 use Rattle.change.specs.Flat.{capacityAt}
 use Rattle.change.specs.Known.{AtNode, AtChannel}
-use Rattle.change.proofs.Opening.{running}
+use Rattle.change.proofs.Openings.{running}
 
 -- a node and a channel of a sound started ring
 

@@ -1,6 +1,6 @@
 -- The changes to a ring in memory that the calls are made of, on its numbers and rows. proofs/ shows each to be a change of the ring that
 -- it holds. Assumes nothing.
-use Prim.Native.Nat.{ℕ, _+_, _-_, _*_, min}
+use Prim.Native.Nat.{ℕ, _+_, _-_, _*_}
 use mathlib.Core.Bool.{cond}
 use mathlib.Core.List.{List, [], _∷_, _++_}
 use lib.Dec.{ltb, eqb}
@@ -20,10 +20,12 @@ use Rattle.network.specs.Layout.{row, rowLength, withNodes, withChannels, withD
 abbrev pub appended : List ℕ → ℕ → ℕ → ℕ → List ℕ
 appended cells p used cell = set cells (rowLength * p + used) cell
 
--- the row of node p without its first cell: the others move up, and the last is zero
-abbrev pub shifted : List ℕ → ℕ → List ℕ
-shifted cells p =
-    take (rowLength * p) cells ++ (drop 1 (row rowLength cells p) ++ (0 ∷ [])) ++ drop (rowLength * p + rowLength) cells
+-- the row of node p without its cell at index i: those after it move up, and the last is zero
+abbrev pub cutRow : List ℕ → ℕ → List ℕ
+cutRow cells i = take i cells ++ (drop (i + 1) cells ++ (0 ∷ []))
+
+abbrev pub cutAt : List ℕ → ℕ → ℕ → List ℕ
+cutAt cells p i = take (rowLength * p) cells ++ cutRow (row rowLength cells p) i ++ drop (rowLength * p + rowLength) cells
 
 -- the bytes of channel k's record
 abbrev pub recorded : List ℕ → ℕ → BatchRecord → List ℕ
@@ -88,13 +90,13 @@ joined r p cell =
     ringIn (joinedHead (r .head) p) (r .slots) (appended (r .lines) p (waitingAt (r .head) p) cell) (r .offers) (r .carried)
 
 abbrev pub left : Ring → ℕ → Ring
-left r p = ringIn (leftHead (r .head) p) (shifted (r .slots) p) (r .lines) (r .offers) (r .carried)
+left r p = ringIn (leftHead (r .head) p) (cutAt (r .slots) p 0) (r .lines) (r .offers) (r .carried)
 
 abbrev pub entered : Ring → ℕ → Ring
 entered r p =
     ringIn (enteredHead (r .head) p)
     (appended (r .slots) p (usedAt (r .head) p) (getD (r .lines) (rowLength * p) 0))
-    (shifted (r .lines) p)
+    (cutAt (r .lines) p 0)
     (r .offers)
     (r .carried)
 
@@ -128,6 +130,6 @@ handedOut r k =
     ringIn (withDeliveries (rested r k .head) (oneMore (r .head .deliveries))) (r .slots) (r .lines) (r .offers)
     (rested r k .carried)
 
--- the node that takes the message of a channel that is asking or answering
-abbrev pub targetAt : Head → ℕ → ℕ
-targetAt h k = cond (eqb (phaseAt h k) 1) (senderAt h k) (receiverAt h k)
+-- the node that takes the message of a channel that is asking or answering: its sender or its receiver, by the number of the phase
+abbrev pub targetBy : ℕ → ℕ → ℕ → ℕ
+targetBy phase sender receiver = cond (eqb phase 1) sender receiver

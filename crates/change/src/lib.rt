@@ -1,7 +1,8 @@
 // The changes that the ring calls are made of, and their answers: for the crates of the calls alone. Buffers and lines are rows of cells:
-// a cell is put after the used ones, or the first is taken and the others move up. Cells and records are changed where they lie; the
+// a cell is put after the used ones, or one is cut out and those after it move up. Cells and records are changed where they lie; the
 // head goes by value. What a change asks, every call has tested before it.
 pub mod answer;
+pub mod opening;
 
 use batch::BatchRecord;
 use network::Cells;
@@ -13,8 +14,8 @@ ghost use Prim.Native.Nat.{_<_, _+_};
 ghost use lib.ListN.{length};
 ghost use Rattle.batch.specs.Blank.{noRecord};
 ghost use Rattle.network.specs.Layout.{nodeRoom, channelRoom, rowLength, cellRoom, recordAt};
-ghost use Rattle.change.specs.Flat.{appended, shifted, recorded, joinedHead, leftHead, phasedHead, waitingAt, senderAt, usedAt};
-ghost use Rattle.change.specs.Known.{CanJoin, CanRespond};
+ghost use Rattle.change.specs.Flat.{appended, cutAt, recorded, joinedHead, leftHead, waitingAt, usedAt};
+ghost use Rattle.change.specs.Known.{CanJoin, CanRespond, Responded};
 
 // A cell is put after the used ones of the row of node `at`.
 pub fn put(cells: &mut Cells, at: usize, used: u8, cell: u8)
@@ -25,15 +26,15 @@ pub fn put(cells: &mut Cells, at: usize, used: u8, cell: u8)
     cells[end] = cell;
 }
 
-// The first cell of the row of node `at` goes: the others move up, and the last is zero.
-pub fn shift(cells: &mut Cells, at: usize)
-    requires { ⌜ at < nodeRoom ⌝ }
+// The cell at index `from` of the row of node `at` goes: those after it move up, and the last is zero.
+pub fn cut(cells: &mut Cells, at: usize, from: usize)
+    requires { ⌜ (at < nodeRoom) × (from < rowLength) ⌝ }
     requires { ⌜ length (now cells) ≡ cellRoom ⌝ }
-    ensures { λ r. ⌜ now (cells .exit) ≡ shifted (now (cells .entry)) at ⌝ }
+    ensures { λ r. ⌜ now (cells .exit) ≡ cutAt (now (cells .entry)) at from ⌝ }
 {
     let base = network::ROW * at;
     let last = network::ROW - 1;
-    let mut j = 0;
+    let mut j = from;
     while j < last {
         cells[base + j] = cells[base + j + 1];
         j += 1;
@@ -83,10 +84,10 @@ pub fn leave(mut head: Head, slots: &mut Cells, at: usize) -> Head
     requires { ⌜ (at < nodeRoom) × (0 < usedAt head at) ⌝ }
     requires { ⌜ length (now slots) ≡ cellRoom ⌝ }
     ensures { λ r. ⌜ r ≡ leftHead head at ⌝ }
-    ensures { λ r. ⌜ now (slots .exit) ≡ shifted (now (slots .entry)) at ⌝ }
+    ensures { λ r. ⌜ now (slots .exit) ≡ cutAt (now (slots .entry)) at 0 ⌝ }
 {
     let used = head.used[at];
-    shift(slots, at);
+    cut(slots, at, 0);
     head.used[at] = used - 1;
     head
 }
@@ -100,10 +101,7 @@ pub fn respond(
     record: BatchRecord,
 ) -> Head
     requires { ⌜ CanRespond head channel ⌝ }
-    ensures { λ r. ⌜ r ≡ joinedHead (phasedHead head channel 3) (senderAt head channel) ⌝ }
-    ensures { λ r. ⌜ now (lines .exit)
-        ≡ appended (now (lines .entry)) (senderAt head channel) (waitingAt head (senderAt head channel)) (channel + 1) ⌝ }
-    ensures { λ r. ⌜ now (carried .exit) ≡ recorded (now (carried .entry)) channel «record» ⌝ }
+    ensures { λ r. ⌜ Responded head (now (lines .entry)) (now (carried .entry)) channel «record» r (now (lines .exit)) (now (carried .exit)) ⌝ }
 {
     let k = channel as usize;
     set_record(carried, k, record);

@@ -29,7 +29,7 @@ use Rattle.network.proofs.Memory.{Fits}
 use Rattle.change.specs.Flat.{appended, recorded, waitingAt, senderAt, receiverAt, phaseAt, offeredAt, joinedHead, phasedHead, offeredHead, joined, phased, offered, responded}
 use Rattle.change.specs.Known.{CanJoin, CanRespond, AtChannel}
 use Rattle.change.specs.Answered.{doneStep}
-use Rattle.change.proofs.Opening.{sound-called, accepts, accepted-fits}
+use Rattle.change.proofs.Openings.{sound-called, accepts, accepted-fits}
 use Rattle.change.proofs.FlatLaws.{asked-held, asked-room, offered-held, responded-held, responded-room}
 use Rattle.change.proofs.Reading.{channel-known, channel-there, channel-numbers, channel-running, resting-code, busy-code, ready-code, unready-code, none-flag, some-flag}
 

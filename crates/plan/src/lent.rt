@@ -1,8 +1,11 @@
 // The calls of this crate on a ring whose cells and records are lent: each takes the head by value and answers the head after the call,
-// with the reply. It tests the ring first and refuses an unsound one; then come the refusals of document 01 in their order, and a refusal
-// leaves the ring as it was.
+// with the reply. It opens as every call does; then come its own refusals in the order of document 01, and a refusal leaves the ring as it
+// was.
 use change::answer::accept;
 use change::answer::refuse;
+use change::opening::Opening;
+use change::opening::Subject;
+use change::opening::open;
 use network::Cells;
 use network::Head;
 use network::HeadStep;
@@ -30,11 +33,9 @@ pub fn add_node(
         (callRing (Runs.addNode capacity)
         (ringIn head (now (slots .entry)) (now (lines .entry)) (now (offers .entry)) (now (carried .entry)))) ⌝ }
 {
-    if !soundness::is_sound(head, slots, lines, offers, carried) {
-        return refuse(head, Refusal::UnsoundRing);
-    }
-    if head.started != 0 {
-        return refuse(head, Refusal::AlreadyStarted);
+    let opening = open(head, slots, lines, offers, carried, Subject::Plan);
+    if let Opening::Refused(refusal) = opening {
+        return refuse(head, refusal);
     }
     let count = head.node_count;
     if Ring::MOST_NODES <= count {
@@ -66,11 +67,9 @@ pub fn add_channel(
         (callRing (Runs.addChannel (sender .0) (receiver .0))
         (ringIn head (now (slots .entry)) (now (lines .entry)) (now (offers .entry)) (now (carried .entry)))) ⌝ }
 {
-    if !soundness::is_sound(head, slots, lines, offers, carried) {
-        return refuse(head, Refusal::UnsoundRing);
-    }
-    if head.started != 0 {
-        return refuse(head, Refusal::AlreadyStarted);
+    let opening = open(head, slots, lines, offers, carried, Subject::Plan);
+    if let Opening::Refused(refusal) = opening {
+        return refuse(head, refusal);
     }
     let nodes = head.node_count;
     let count = head.channel_count;
@@ -103,11 +102,9 @@ pub fn start(
         (callRing Runs.start
         (ringIn head (now (slots .entry)) (now (lines .entry)) (now (offers .entry)) (now (carried .entry)))) ⌝ }
 {
-    if !soundness::is_sound(head, slots, lines, offers, carried) {
-        return refuse(head, Refusal::UnsoundRing);
-    }
-    if head.started != 0 {
-        return refuse(head, Refusal::AlreadyStarted);
+    let opening = open(head, slots, lines, offers, carried, Subject::Plan);
+    if let Opening::Refused(refusal) = opening {
+        return refuse(head, refusal);
     }
     let channels = head.channel_count;
     if head.node_count < 1 {

@@ -30,7 +30,7 @@ use Rattle.network.proofs.Rows.{getD-padded, getD-row}
 use Rattle.network.proofs.Memory.{SoundRing, sound-ring, HeldNode}
 use Rattle.change.specs.Flat.{usedAt}
 use Rattle.change.specs.Known.{AtChannel}
-use Rattle.change.proofs.Opening.{sound-called}
+use Rattle.change.proofs.Openings.{sound-called}
 use Rattle.change.proofs.Reading.{channel-known, channel-there, channel-numbers, channel-running}
 use Rattle.questions.specs.Asked.{Within, standsIn, placeIn, wayIn, hopsIn}
 

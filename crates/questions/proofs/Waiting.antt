@@ -23,7 +23,7 @@ use Rattle.network.proofs.Cases.{by-test}
 use Rattle.network.proofs.Counting.{sum-same, one-most}
 use Rattle.network.proofs.Memory.{SoundRing, sound-ring}
 use Rattle.change.specs.Flat.{receiverAt, phaseAt}
-use Rattle.change.proofs.Opening.{sound-called}
+use Rattle.change.proofs.Openings.{sound-called}
 use Rattle.questions.specs.Asked.{waits, waitsAt, bits, waitingIn}
 
 -- the bits of the channels, by their numbers and as the definitions say

@@ -16,7 +16,7 @@ use Rattle.network.specs.Layout.{nodeRoom, rowLength, cellRoom, view, heldOutco
 use Rattle.network.proofs.Cases.{by-list}
 use Rattle.change.specs.Flat.{capacityAt, usedAt, waitingAt, entered}
 use Rattle.change.specs.Known.{AtNode}
-use Rattle.change.proofs.Opening.{sound-called}
+use Rattle.change.proofs.Openings.{sound-called}
 use Rattle.change.proofs.FlatLaws.{entered-held}
 use Rattle.change.proofs.Reading.{node-known, node-there, node-within, node-numbers, node-running, slots-within, empty-length}
 

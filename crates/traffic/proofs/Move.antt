@@ -38,7 +38,7 @@ use Rattle.network.proofs.Changes.{fits-with-node, fits-with-channel}
 use Rattle.change.specs.Flat.{appended, shifted, recorded, capacityAt, usedAt, waitingAt, markAt, phaseAt, offeredAt, senderAt, targetAt, markAfter, joinedHead, leftHead, phasedHead, offeredHead, left, passed, phased, withdrawn, responded, handedOut}
 use Rattle.change.specs.Answered.{doneStep}
 use Rattle.change.specs.Known.{CanRespond, AtNode, Leaves, Takes, Delivers, Passes}
-use Rattle.change.proofs.Opening.{sound-called, accepts, accepted-fits, marked, unmarked}
+use Rattle.change.proofs.Openings.{sound-called, accepts, accepted-fits, marked, unmarked}
 use Rattle.change.proofs.FlatLaws.{first-cell, left-held, passed-held, phased-held, withdrawn-held, handed-out-held, responded-held, responded-room}
 use Rattle.change.proofs.Reading.{node-known, node-there, node-within, node-numbers, node-running, empty-length, asking-code, none-flag}
 

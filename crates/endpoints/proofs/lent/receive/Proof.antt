@@ -7,7 +7,7 @@ use Rattle.network.specs.declared.Ring.{Ring}
 use Rattle.network.specs.Runs
 use Rattle.network.specs.Layout.{ringIn, soundRing}
 use Rattle.change.specs.Known.{AtChannel}
-use Rattle.change.proofs.Opening.{turned-down, passed-test, unsound-refused, refuses, idle-refused, channel-refused}
+use Rattle.change.proofs.Openings.{turned-down, passed-test, unsound-refused, refuses, idle-refused, channel-refused}
 use Rattle.change.proofs.Reading.{channel-within}
 use Rattle.endpoints.proofs.Offers.{receive-busy, receive-room, request-made}
 use Rattle.endpoints.proofs.lent.receive.Statement.{statement}

@@ -13,7 +13,7 @@ use Rattle.network.specs.declared.Ring.{Ring}
 use Rattle.network.specs.Runs
 use Rattle.network.specs.Layout.{ringIn, soundRing}
 use Rattle.change.specs.Known.{AtChannel}
-use Rattle.change.proofs.Opening.{turned-down, passed-test, unsound-refused, refuses, accepts, idle-refused, channel-refused}
+use Rattle.change.proofs.Openings.{turned-down, passed-test, unsound-refused, refuses, accepts, idle-refused, channel-refused}
 use Rattle.change.proofs.Reading.{channel-within}
 use Rattle.endpoints.proofs.Offers.{send-bad, send-again, send-offered, send-room, response-made}
 use Rattle.endpoints.proofs.lent.send.Statement.{statement}

@@ -7,7 +7,7 @@ use Rattle.network.specs.declared.Ring.{Ring}
 use Rattle.network.specs.Layout.{ringIn, soundRing}
 use Rattle.network.specs.Runs
 use Rattle.change.specs.Known.{AtChannel}
-use Rattle.change.proofs.Opening.{turned-down, passed-test, unsound-refused, idle-refused, channel-refused, replies}
+use Rattle.change.proofs.Openings.{turned-down, passed-test, unsound-refused, idle-refused, channel-refused, replies}
 use Rattle.change.proofs.Reading.{channel-within}
 use Rattle.questions.proofs.Standing.{sound-within, hops-answered}
 use Rattle.questions.proofs.lent.hops_left.Statement.{statement}

@@ -5,7 +5,7 @@ use borrow.Author.Needs.{needs}
 use Rattle.network.specs.declared.Answer.the-variants.{Waiting}
 use Rattle.network.specs.declared.Ring.{Ring}
 use Rattle.network.specs.Layout.{ringIn, soundRing}
-use Rattle.change.proofs.Opening.{turned-down, passed-test, unsound-refused, replies}
+use Rattle.change.proofs.Openings.{turned-down, passed-test, unsound-refused, replies}
 use Rattle.questions.proofs.Standing.{sound-within}
 use Rattle.questions.proofs.Waiting.{waiting-no-node, waiting-answered}
 use Rattle.questions.proofs.lent.waiting_set.Statement.{statement}

@@ -9,7 +9,7 @@ use Rattle.network.specs.declared.Ring.{Ring}
 use Rattle.network.specs.Layout.{rowLength, ringIn}
 use Rattle.change.specs.Flat.{targetAt}
 use Rattle.change.specs.Known.{Leaves}
-use Rattle.change.proofs.Opening.{refuses}
+use Rattle.change.proofs.Openings.{refuses}
 use Rattle.change.proofs.Reading.{node-within}
 use Rattle.traffic.proofs.Move.{move-empty, first-within, cell-used, cell-within}
 use Rattle.traffic.proofs.lent.move_at.Statement.{statement}

@@ -5,7 +5,7 @@ use borrow.Author.Needs.{needs}
 use Rattle.network.specs.declared.Ring.{Ring}
 use Rattle.network.specs.Runs
 use Rattle.network.specs.Layout.{ringIn, soundRing}
-use Rattle.change.proofs.Opening.{turned-down, passed-test, unsound-refused, refuses, idle-refused, node-refused}
+use Rattle.change.proofs.Openings.{turned-down, passed-test, unsound-refused, refuses, idle-refused, node-refused}
 use Rattle.traffic.proofs.lent.move_on.Statement.{statement}
 use Rattle.traffic.proofs.lent.move_on.Tie as tie
 
