@@ -82,7 +82,7 @@ statements g ps =
     (seq (assign (place 0 []) (rvOpd (copy (place (at-step ps) (field 1 ∷ [])))))
     return)))
 
-abbrev inPlace : (X : Kind) → Paired X → Name → List Kind → Fn
+abbrev pub inPlace : (X : Kind) → Paired X → Name → List Kind → Fn
 inPlace X T g ps = record {
   lifetimes = 1;
   outlives = [];
