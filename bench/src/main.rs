@@ -7,7 +7,7 @@ use std::process::ExitCode;
 use std::time::Instant;
 
 extern "C" {
-    /// Writes the listing of a tape into a buffer and answers its length (crates/export).
+    /// Writes the listing of a tape into a buffer and answers its length (crates/vessel_ring).
     fn vessel_ring_list(tape: *const u8, length: usize, out: *mut u8, room: usize) -> usize;
 }
 

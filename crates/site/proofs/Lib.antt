@@ -1,5 +1,4 @@
 pub mod Called
-pub mod Lending
 pub mod Machine
 pub mod Params
 pub mod Question

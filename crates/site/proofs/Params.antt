@@ -81,7 +81,7 @@ slots n (P ∷ ps) = plain (λ _. P .row) ∷ slots n ps
 abbrev pub kept : (n : ℕ) (ps : List Kind) → Kepts (slots n ps)
 kept n ps = all yes (slots n ps)
 
--- the values, as a function with no lifetime takes them; `across` takes them there from one with n lifetimes, and `back` back
+-- the values, as a function with no lifetime takes them; `across` takes them there from one with n lifetimes
 abbrev pub Values : List Kind → Type 0
 Values ps = Denots (typesAt (slots 0 ps) tt)
 
@@ -109,31 +109,6 @@ pub owns-across :
     ≡ owns (typesAt (slots 0 ps) tt) (across n κs ps a) (words 0 tt ps (across n κs ps a))
 owns-across n κs [] a = refl
 owns-across n κs (P ∷ ps) a = ap (fsep (P .row .own (a .0) (P .val (a .0) ∷ []))) (owns-across n κs ps (a .1))
-
-pub across-same : (ps : List Kind) (x : Values ps) → across 0 tt ps x ≡ x
-across-same [] x = refl
-across-same (P ∷ ps) x = ap (λ (y : Values ps). (x .0, y)) (across-same ps (x .1))
-
-module _ (n : ℕ) (κs : Lfts n) where
-  abbrev pub back : (ps : List Kind) → Values ps → Denots (typesAt (slots n ps) κs)
-  back [] x = tt
-  back (P ∷ ps) x = (x .0, back ps (x .1))
-
-  pub across-back : (ps : List Kind) (x : Values ps) → across n κs ps (back ps x) ≡ x
-  across-back [] x = refl
-  across-back (P ∷ ps) x = ap (λ (y : Values ps). (x .0, y)) (across-back ps (x .1))
-
-  flat-back :
-      (ps : List Kind) (x : Values ps) →
-      flat (typesAt (slots 0 ps) tt) (words 0 tt ps x) ≡ flat (typesAt (slots n ps) κs) (words n κs ps (back ps x))
-  flat-back [] x = refl
-  flat-back (P ∷ ps) x = ap (λ (vs : List Val). P .val (x .0) ∷ vs) (flat-back ps (x .1))
-
-  pub owns-back :
-      (ps : List Kind) (x : Values ps) →
-      owns (typesAt (slots 0 ps) tt) x (words 0 tt ps x) ≡ owns (typesAt (slots n ps) κs) (back ps x) (words n κs ps (back ps x))
-  owns-back [] x = refl
-  owns-back (P ∷ ps) x = ap (fsep (P .row .own (x .0) (P .val (x .0) ∷ []))) (owns-back ps (x .1))
 
 -- ---- at exit nothing is had of them, and nothing is said
 last-of : {D : Type 0} {e : Exit D} → e ≡ unchanged → (x : D) → Last e x
@@ -275,13 +250,6 @@ module _ {M : Type 1} {𝓤 : URA M} {H : Heap 𝓤} {A : Atoms 𝓤} {W : Given
       (and-then ! (load ! (in-local (at .0) (stop !)) (look ! 1 refl))
       (read-all ps (bs .1) (λ j. φ (suc j)) (x .1)
       {Γ = ‵ (fat fullShare (P .ty) (bs .0) 0 (P .val (x .0))) ∷ ‵ (fdies (P .ty) (bs .0)) ∷ Γ} (at .1)))
-
-  pub read-back :
-      (n : ℕ) (κs : Lfts n) (ps : List Kind) (bs : Blocks ps) (φ : ℕ → ℕ) (x : Values ps) {Γ : List (Item 𝓤)} {E : Placed} →
-      Found ps bs φ E →
-      Opds (Go {0}) W (‵ (filled ps bs x) ∷ Γ) E (copies φ ps) (flat (typesAt (slots n ps) κs) (words n κs ps (back n κs ps x)))
-  read-back n κs ps bs φ x {Γ} {E} at =
-      subst (λ (vs : List Val). Opds (Go {0}) W (‵ (filled ps bs x) ∷ Γ) E (copies φ ps) vs) (flat-back n κs ps x) (read-all ps bs φ x at)
 
   pub free-all :
       (ps : List Kind) (bs : Blocks ps) (x : Values ps) {Γ : List (Item 𝓤)} {E : Placed} {g : Goal 𝓤 H} → Sq W Γ (frees E g) →

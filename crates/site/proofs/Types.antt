@@ -1,4 +1,7 @@
--- The kinds (Params.antt) of what the nine calls take and answer. Assumes nothing.
+-- The kinds (Params.antt) of what the nine calls take and answer, and the step as a pair (Walk.antt) of a ring and a reply. Assumes
+-- nothing.
+use mathlib.Core.List.{[], _∷_}
+use denote.Struct.Laws as LL
 use Rattle.batch.proofs.BatchRecord as B
 use Rattle.batch.proofs.BatchRecord.Laws as B′
 use Rattle.network.proofs.Answer as A
@@ -7,7 +10,13 @@ use Rattle.network.proofs.ChannelNo as C
 use Rattle.network.proofs.ChannelNo.Laws as C′
 use Rattle.network.proofs.NodeNo as N
 use Rattle.network.proofs.NodeNo.Laws as N′
+use Rattle.network.proofs.Reply as P
+use Rattle.network.proofs.Reply.Laws as P′
+use Rattle.network.proofs.Step as S
+use Rattle.network.proofs.Step.Laws as S′
+use Rattle.site.proofs.Machine.{parts}
 use Rattle.site.proofs.Params.{Kind, struct-kind, enum-kind}
+use Rattle.site.proofs.Walk.{Paired}
 
 abbrev pub node-no : Kind
 node-no = struct-kind N.the-type N′.the-laws N′.the-copy
@@ -20,3 +29,18 @@ batch-record = struct-kind B.the-type B′.the-laws B′.the-copy
 
 abbrev pub answer : Kind
 answer = enum-kind A.the-type A′.the-laws tt A′.the-copy
+
+abbrev pub reply : Kind
+reply = struct-kind P.the-type P′.the-laws P′.the-copy
+
+abbrev pub step : Paired reply
+step = record {
+  name = S.the-type .name;
+  row = S.the-row;
+  ring = λ s. s .ring;
+  out = λ s. s .reply;
+  spelled = LL.tells S.the-type S′.the-laws;
+  typed = λ 𝓤 H A W s v is. LL.lawful S.the-type S′.the-laws 𝓤 H A W .typed s (v ∷ []) is .0;
+  parts = parts;
+  makes = λ 𝓤 H A W. LL.makes P.the-type P′.the-plain 𝓤 H A;
+}

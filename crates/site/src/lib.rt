@@ -9,9 +9,7 @@
 //
 // Any of them says `Refused` with the first refusal that applies, and then the ring is as it was; an unsound ring is refused by all
 // nine. The same call by value, of `plan`, `endpoints`, `traffic` or `questions`, does the work, and each contract is that call's: what
-// it returns is the whole ring afterwards and the reply. The module `by_value` is for programs and tests.
-pub mod by_value;
-
+// it returns is the whole ring afterwards and the reply.
 use batch::BatchRecord;
 use network::Answer;
 use network::ChannelNo;

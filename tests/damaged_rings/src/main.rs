@@ -4,62 +4,21 @@
 //! rings are fewer than a fifth.
 
 use damaged_rings::compare::compare;
-use damaged_rings::layout::{Bytes, CARRIED, LINES, OFFERS, SLOTS};
-use second_model::ring::{CELLS, CHANNELS, NODES};
+use damaged_rings::layout::Bytes;
 use std::process::ExitCode;
 
-/// The bytes of a record for each channel.
-const RECORDS: usize = CARRIED - OFFERS;
-
-/// A ring but for its cells and its records, as crates/network has it.
-#[repr(C)]
-#[derive(Clone, Copy)]
-struct Head {
-    deliveries: u32,
-    started: u8,
-    node_count: u8,
-    channel_count: u8,
-    spare: u8,
-    capacity: [u8; NODES],
-    used: [u8; NODES],
-    waiting: [u8; NODES],
-    marks: [u8; NODES],
-    senders: [u8; CHANNELS],
-    receivers: [u8; CHANNELS],
-    phases: [u8; CHANNELS],
-    offered: [u8; CHANNELS],
-}
-
-const _: () = assert!(size_of::<Head>() == SLOTS, "the head ends where the slots begin");
+/// A ring where C would have it: its first field is a number of 32 bits.
+#[repr(C, align(4))]
+struct Ring(Bytes);
 
 extern "C" {
-    /// 1 where the ring is sound, else 0 (crates/export).
-    fn vessel_ring_is_sound(
-        head: Head,
-        slots: &[u8; CELLS],
-        lines: &[u8; CELLS],
-        offers: &[u8; RECORDS],
-        carried: &[u8; RECORDS],
-    ) -> u8;
-}
-
-fn part<const N: usize>(bytes: &Bytes, first: usize) -> &[u8; N] {
-    bytes[first..first + N].try_into().expect("as many bytes as asked for")
+    /// 1 where the ring is sound, else 0 (include/vessel_ring.h).
+    fn vessel_ring_is_sound(ring: &Ring) -> u8;
 }
 
 fn proved(bytes: &Bytes) -> u8 {
-    // A head has no padding and every pattern of its bytes is a value. The
-    // function reads the parts that it is lent and writes nothing.
-    unsafe {
-        let head = bytes.as_ptr().cast::<Head>().read_unaligned();
-        vessel_ring_is_sound(
-            head,
-            part(bytes, SLOTS),
-            part(bytes, LINES),
-            part(bytes, OFFERS),
-            part(bytes, CARRIED),
-        )
-    }
+    // Every pattern of bytes is a ring. The function reads it and writes nothing.
+    unsafe { vessel_ring_is_sound(&Ring(*bytes)) }
 }
 
 fn main() -> ExitCode {

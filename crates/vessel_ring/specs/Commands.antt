@@ -1,0 +1,84 @@
+-- A command of the tape in plain numbers, and what reading and writing one answers. Assumes nothing.
+use Prim.Native.Nat.{ℕ}
+use mathlib.Core.Bool.{cond}
+use mathlib.Core.List.{List}
+use lib.Dec.{eqb}
+use Rattle.batch.specs.declared.BatchRecord.{BatchRecord}
+use Rattle.refusal.specs.Number.{numberOf}
+use Rattle.refusal.specs.declared.Refusal.the-variants.{UnknownCommand}
+use Rattle.tape.specs.declared.Action.{Action}
+use Rattle.tape.specs.declared.Action.the-variants.{AddNode, AddChannel, Start, Receive, Send, Enter, Move}
+use Rattle.tape.specs.declared.Command as tape
+use Rattle.tape.specs.declared.ReadAnswer.{ReadAnswer}
+use Rattle.tape.specs.declared.ReadAnswer.the-variants.{Read, End, Refused}
+use Rattle.tape.specs.declared.Reading as read
+use Rattle.tape.specs.declared.Writing as wrote
+use Rattle.tape.specs.declared.Writing.the-variants as written
+use Rattle.tape.specs.Table.{codeOf}
+use Rattle.tape.specs.Tape.{writeAt, afterWrite}
+use Rattle.vessel_ring.specs.declared.Command.{Command}
+use Rattle.vessel_ring.specs.declared.Reading.{Reading}
+use Rattle.vessel_ring.specs.declared.Record.{Record}
+use Rattle.vessel_ring.specs.declared.Writing.{Writing}
+use Rattle.vessel_ring.specs.declared.commands.Wanted.{Wanted}
+use Rattle.vessel_ring.specs.declared.commands.Wanted.the-variants.{Known, Unknown}
+use Rattle.vessel_ring.specs.Records.{recordOf, recordFor}
+
+abbrev pub command : ℕ → ℕ → ℕ → Record → Command
+command code first second x = record { code = code; first = first; second = second; «record» = x }
+
+-- an action as its command byte and its operands; what it does not have is 0
+abbrev pub commandOf : Action → Record → Command
+commandOf (AddNode slots) x = command (codeOf (AddNode slots)) slots 0 x
+commandOf (AddChannel sender receiver) x = command (codeOf (AddChannel sender receiver)) sender receiver x
+commandOf Start x = command (codeOf Start) 0 0 x
+commandOf (Receive channel) x = command (codeOf (Receive channel)) channel 0 x
+commandOf (Send channel) x = command (codeOf (Send channel)) channel 0 x
+commandOf (Enter node) x = command (codeOf (Enter node)) node 0 x
+commandOf (Move node) x = command (codeOf (Move node)) node 0 x
+
+-- what was read: a command and the place after it, the end, or a refusal
+abbrev pub readingOf : ReadAnswer → Command → Reading
+readingOf (Read next) c = record { next = next; refusal = 0; end = 0; command = c }
+readingOf End c = record { next = 0; refusal = 0; end = 1; command = c }
+readingOf (Refused r) c = record { next = 0; refusal = numberOf r; end = 0; command = c }
+
+abbrev pub readingIn : read.Reading → Reading
+readingIn r = readingOf (r .answer) (commandOf (r .command .action) (recordFor (r .command .«record»)))
+
+-- what a command byte and its operands stand for
+abbrev pub actionOf : ℕ → ℕ → ℕ → Wanted
+actionOf code first second =
+    cond (eqb code 0x10) (Known (AddNode first))
+    (cond (eqb code 0x11) (Known (AddChannel first second))
+    (cond (eqb code 0x12) (Known Start)
+    (cond (eqb code 0x20) (Known (Receive first))
+    (cond (eqb code 0x21) (Known (Send first))
+    (cond (eqb code 0x22) (Known (Enter first))
+    (cond (eqb code 0x23) (Known (Move first))
+    Unknown))))))
+
+abbrev pub writingIn : wrote.Writing → Writing
+writingIn (written.Written next) = record { next = next; refusal = 0 }
+writingIn (written.Refused r) = record { next = 0; refusal = numberOf r }
+
+abbrev pub withRecord : Action → BatchRecord → tape.Command
+withRecord a x = record { action = a; «record» = x }
+
+-- an unknown command byte is refused with 22, and nothing is written
+abbrev pub writes : Wanted → BatchRecord → List ℕ → ℕ → Writing
+writes (Known a) x bytes place = writingIn (writeAt bytes place (withRecord a x))
+writes Unknown x bytes place = record { next = 0; refusal = numberOf UnknownCommand }
+
+abbrev pub leaves : Wanted → BatchRecord → List ℕ → ℕ → List ℕ
+leaves (Known a) x bytes place = afterWrite (writeAt bytes place (withRecord a x)) bytes place (withRecord a x)
+leaves Unknown x bytes place = bytes
+
+abbrev wantedBy : Command → Wanted
+wantedBy c = actionOf (c .code) (c .first) (c .second)
+
+abbrev pub writingTo : List ℕ → ℕ → Command → Writing
+writingTo bytes place c = writes (wantedBy c) (recordOf (c .«record»)) bytes place
+
+abbrev pub afterWriting : List ℕ → ℕ → Command → List ℕ
+afterWriting bytes place c = leaves (wantedBy c) (recordOf (c .«record»)) bytes place

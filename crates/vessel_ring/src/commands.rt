@@ -1,0 +1,124 @@
+// A command of the tape in plain numbers, and what reading and writing one answers.
+use crate::Command;
+use crate::Reading;
+use crate::Record;
+use crate::Writing;
+use crate::records::record_for;
+use crate::records::record_of;
+use tape::Action;
+use tape::ReadAnswer;
+ghost use mathlib.Core.Path.{_≡_};
+ghost use Rattle.vessel_ring.specs.Commands.{command, commandOf, readingIn, actionOf, writingIn, writingTo, afterWriting};
+
+fn command(code: u8, first: u8, second: u8, record: Record) -> Command
+    ensures { λ r. ⌜ r ≡ command code first second «record» ⌝ }
+{
+    Command {
+        code,
+        first,
+        second,
+        record,
+    }
+}
+
+fn command_of(action: Action, record: Record) -> Command
+    ensures { λ r. ⌜ r ≡ commandOf action «record» ⌝ }
+{
+    match action {
+        Action::AddNode(slots) => command(0x10, slots, 0, record),
+        Action::AddChannel(sender, receiver) => command(0x11, sender, receiver, record),
+        Action::Start => command(0x12, 0, 0, record),
+        Action::Receive(channel) => command(0x20, channel, 0, record),
+        Action::Send(channel) => command(0x21, channel, 0, record),
+        Action::Enter(node) => command(0x22, node, 0, record),
+        Action::Move(node) => command(0x23, node, 0, record),
+    }
+}
+
+pub fn reading_of(reading: tape::Reading) -> Reading
+    ensures { λ r. ⌜ r ≡ readingIn reading ⌝ }
+{
+    let answer = reading.answer;
+    let read = reading.command;
+    let action = read.action;
+    let record = record_for(read.record);
+    let command = command_of(action, record);
+    match answer {
+        ReadAnswer::Read { next } => Reading {
+            next,
+            refusal: 0,
+            end: 0,
+            command,
+        },
+        ReadAnswer::End => Reading {
+            next: 0,
+            refusal: 0,
+            end: 1,
+            command,
+        },
+        ReadAnswer::Refused(refusal) => {
+            let number = refusal.number();
+            Reading {
+                next: 0,
+                refusal: number,
+                end: 0,
+                command,
+            }
+        }
+    }
+}
+
+// What a command byte and its operands stand for, if anything.
+enum Wanted {
+    Known(Action),
+    Unknown,
+}
+
+fn action_of(code: u8, first: u8, second: u8) -> Wanted
+    ensures { λ r. ⌜ r ≡ actionOf code first second ⌝ }
+{
+    match code {
+        0x10 => Wanted::Known(Action::AddNode(first)),
+        0x11 => Wanted::Known(Action::AddChannel(first, second)),
+        0x12 => Wanted::Known(Action::Start),
+        0x20 => Wanted::Known(Action::Receive(first)),
+        0x21 => Wanted::Known(Action::Send(first)),
+        0x22 => Wanted::Known(Action::Enter(first)),
+        0x23 => Wanted::Known(Action::Move(first)),
+        _ => Wanted::Unknown,
+    }
+}
+
+fn writing_of(answer: tape::Writing) -> Writing
+    ensures { λ r. ⌜ r ≡ writingIn answer ⌝ }
+{
+    match answer {
+        tape::Writing::Written { next } => Writing { next, refusal: 0 },
+        tape::Writing::Refused(refusal) => {
+            let number = refusal.number();
+            Writing {
+                next: 0,
+                refusal: number,
+            }
+        }
+    }
+}
+
+// Writes a command at a place. A command byte that the tape does not have is refused with 22, before the tape is looked at.
+pub fn write(bytes: &mut [u8], place: usize, command: Command) -> Writing
+    ensures { λ r. ⌜ (r ≡ writingTo (now (bytes .entry)) place command)
+        × (now (bytes .exit) ≡ afterWriting (now (bytes .entry)) place command) ⌝ }
+{
+    let record = record_of(command.record);
+    let wanted = action_of(command.code, command.first, command.second);
+    match wanted {
+        Wanted::Known(action) => {
+            let answer = tape::write(bytes, place, tape::Command { action, record });
+            writing_of(answer)
+        }
+        Wanted::Unknown => Writing {
+            next: 0,
+            refusal: 22,
+        },
+    }
+}

@@ -1,0 +1,214 @@
+// The ring for firmware, as C functions: include/vessel_ring.h has their types for C and says how to use them, and `rt staticlib
+// vessel_ring` writes the library. The nine ring calls go on a ring that the caller keeps and lends by pointer; beside them stand the
+// reader and the writer of commands, the test for a sound ring and the listing of a tape. Every function takes every value: no byte of a
+// ring, a record, a command or a tape is trusted, a refusal answers its number and leaves everything as it was.
+//
+// One more call on the ring takes
+//
+// - its function in `by_number`, which makes the call by value and tells its answer in numbers, with a proof of one line;
+// - the exported function here, three lines and its contract, with a proof that names the two functions, the operands and the call
+//   (`proofs/InPlace.antt` has the argument); a question is one line, by `Question.antt` of `site`;
+// - where its answer has a value that no other has, a field of `Said` and of the struct that it answers;
+// - its prototype in the header, and its arm in tests/calls.
+//
+// One more command of the tape takes an arm in `command_of` and in `action_of` of `commands`, with theirs in specs/Commands.antt.
+mod by_number;
+mod commands;
+mod records;
+
+use network::Ring;
+use runner::Session;
+ghost use mathlib.Core.Path.{_≡_};
+ghost use Rattle.network.specs.Counting.{one};
+ghost use Rattle.network.specs.Layout.{freshRing, soundRing};
+ghost use Rattle.network.specs.Runs;
+ghost use Rattle.site.specs.InPlace.{ringAfter, answerTo};
+ghost use Rattle.tape.specs.Tape.{readAt};
+ghost use Rattle.vessel_ring.specs.Answers.{numberTo, deliveryTo, hopsLeftIn, waitingIn};
+ghost use Rattle.vessel_ring.specs.Commands.{readingIn, writingTo, afterWriting};
+ghost use Rattle.vessel_ring.specs.Listed.{Listed};
+ghost use Rattle.vessel_ring.specs.Records.{recordOf};
+
+// A batch record for C, its fields in an order that leaves no padding.
+#[repr(C)]
+pub struct Record {
+    pub batch: u32,
+    pub vessel: u8,
+    pub name_length: u8,
+    pub temperature: i16,
+    pub name: [u8; 32],
+}
+
+// What a move answers. `delivered` is 1 where it delivered; elsewhere the channel and the record are zero.
+#[repr(C)]
+pub struct Delivery {
+    pub refusal: u8,
+    pub delivered: u8,
+    pub channel: u8,
+    pub record: Record,
+}
+
+#[repr(C)]
+pub struct HopsLeft {
+    pub refusal: u8,
+    pub hops: u8,
+}
+
+// The channels on which a node's tasks wait, channel 0 being the lowest bit, and how many they are.
+#[repr(C)]
+pub struct Waiting {
+    pub set: u64,
+    pub tasks: u32,
+    pub refusal: u8,
+}
+
+// A command of the tape: its command byte, its operands of one byte, and the record of a send. What it does not have is zero.
+#[repr(C)]
+pub struct Command {
+    pub code: u8,
+    pub first: u8,
+    pub second: u8,
+    pub record: Record,
+}
+
+// What stands at a place of the tape: a refusal, the end, or a command and the place after it.
+#[repr(C)]
+pub struct Reading {
+    pub next: usize,
+    pub refusal: u8,
+    pub end: u8,
+    pub command: Command,
+}
+
+// The place after the command that was written, or the refusal.
+#[repr(C)]
+pub struct Writing {
+    pub next: usize,
+    pub refusal: u8,
+}
+
+#[no_mangle]
+pub extern "C" fn vessel_ring_fresh() -> Ring
+    ensures { λ r. ⌜ r ≡ freshRing ⌝ }
+{
+    Ring::fresh()
+}
+
+#[no_mangle]
+pub extern "C" fn vessel_ring_add_node(ring: &mut Ring, slots: u8) -> u8
+    ensures { λ r. ⌜ (now (ring .exit) ≡ ringAfter (Runs.addNode slots) (now (ring .entry)))
+        × (r ≡ numberTo (Runs.addNode slots) (now (ring .entry))) ⌝ }
+{
+    let s = by_number::add_node(*ring, slots);
+    *ring = s.ring;
+    s.refusal
+}
+
+#[no_mangle]
+pub extern "C" fn vessel_ring_add_channel(ring: &mut Ring, sender: u8, receiver: u8) -> u8
+    ensures { λ r. ⌜ (now (ring .exit) ≡ ringAfter (Runs.addChannel sender receiver) (now (ring .entry)))
+        × (r ≡ numberTo (Runs.addChannel sender receiver) (now (ring .entry))) ⌝ }
+{
+    let s = by_number::add_channel(*ring, sender, receiver);
+    *ring = s.ring;
+    s.refusal
+}
+
+#[no_mangle]
+pub extern "C" fn vessel_ring_start(ring: &mut Ring) -> u8
+    ensures { λ r. ⌜ (now (ring .exit) ≡ ringAfter Runs.start (now (ring .entry)))
+        × (r ≡ numberTo Runs.start (now (ring .entry))) ⌝ }
+{
+    let s = by_number::start(*ring);
+    *ring = s.ring;
+    s.refusal
+}
+
+#[no_mangle]
+pub extern "C" fn vessel_ring_receive(ring: &mut Ring, channel: u8) -> u8
+    ensures { λ r. ⌜ (now (ring .exit) ≡ ringAfter (Runs.receive channel) (now (ring .entry)))
+        × (r ≡ numberTo (Runs.receive channel) (now (ring .entry))) ⌝ }
+{
+    let s = by_number::receive(*ring, channel);
+    *ring = s.ring;
+    s.refusal
+}
+
+#[no_mangle]
+pub extern "C" fn vessel_ring_send(ring: &mut Ring, channel: u8, record: Record) -> u8
+    ensures { λ r. ⌜ (now (ring .exit) ≡ ringAfter (Runs.send channel (recordOf «record»)) (now (ring .entry)))
+        × (r ≡ numberTo (Runs.send channel (recordOf «record»)) (now (ring .entry))) ⌝ }
+{
+    let s = by_number::send(*ring, channel, record);
+    *ring = s.ring;
+    s.refusal
+}
+
+#[no_mangle]
+pub extern "C" fn vessel_ring_enter(ring: &mut Ring, node: u8) -> u8
+    ensures { λ r. ⌜ (now (ring .exit) ≡ ringAfter (Runs.enter node) (now (ring .entry)))
+        × (r ≡ numberTo (Runs.enter node) (now (ring .entry))) ⌝ }
+{
+    let s = by_number::enter(*ring, node);
+    *ring = s.ring;
+    s.refusal
+}
+
+#[no_mangle]
+pub extern "C" fn vessel_ring_move(ring: &mut Ring, node: u8) -> Delivery
+    ensures { λ r. ⌜ (now (ring .exit) ≡ ringAfter (Runs.move node) (now (ring .entry)))
+        × (r ≡ deliveryTo (Runs.move node) (now (ring .entry))) ⌝ }
+{
+    let s = by_number::move_on(*ring, node);
+    *ring = s.ring;
+    s.delivery
+}
+
+#[no_mangle]
+pub extern "C" fn vessel_ring_hops_left(ring: &Ring, channel: u8) -> HopsLeft
+    ensures { λ r. ⌜ r ≡ hopsLeftIn (answerTo (Runs.hopsLeft channel) (now (ring .entry))) ⌝ }
+{
+    by_number::hops_left(*ring, channel)
+}
+
+#[no_mangle]
+pub extern "C" fn vessel_ring_waiting_set(ring: &Ring, node: u8) -> Waiting
+    ensures { λ r. ⌜ r ≡ waitingIn (answerTo (Runs.waitingSet node) (now (ring .entry))) ⌝ }
+{
+    by_number::waiting_set(*ring, node)
+}
+
+// 1 where the ring is sound, else 0.
+#[no_mangle]
+pub extern "C" fn vessel_ring_is_sound(ring: &Ring) -> u8
+    ensures { λ r. ⌜ r ≡ one (soundRing (now (ring .entry))) ⌝ }
+{
+    by_number::is_sound(*ring)
+}
+
+#[no_mangle]
+pub extern "C" fn vessel_tape_read(bytes: &[u8], place: usize) -> Reading
+    ensures { λ r. ⌜ r ≡ readingIn (readAt (now (bytes .entry)) place) ⌝ }
+{
+    let reading = tape::read(bytes, place);
+    commands::reading_of(reading)
+}
+
+#[no_mangle]
+pub extern "C" fn vessel_tape_write(bytes: &mut [u8], place: usize, command: Command) -> Writing
+    ensures { λ r. ⌜ (r ≡ writingTo (now (bytes .entry)) place command)
+        × (now (bytes .exit) ≡ afterWriting (now (bytes .entry)) place command) ⌝ }
+{
+    commands::write(bytes, place, command)
+}
+
+// Runs a tape from a fresh ring and writes its listing from the beginning of `out`, as many whole lines as have room. Answers how many
+// bytes were written: all of the listing where `out` has room for one line (`listing::LINE_ROOM`) more than that.
+#[no_mangle]
+pub extern "C" fn vessel_ring_list(tape: &[u8], out: &mut [u8]) -> usize
+    ensures { λ r. ⌜ Listed (now (tape .entry)) (now (out .entry)) (now (out .exit)) r ⌝ }
+{
+    let session = Session::begin();
+    let progress = runner::run(tape, session, out);
+    progress.written
+}
