@@ -26,11 +26,12 @@ use Rattle.network.specs.Calls
 use Rattle.network.specs.Runs
 use Rattle.network.specs.Layout.{view, heldOutcome, callRing, stepIn}
 use Rattle.network.proofs.Memory.{Fits}
-use Rattle.change.specs.Flat.{appended, recorded, waitingAt, senderAt, receiverAt, phaseAt, offeredAt, joinedHead, phasedHead, offeredHead, joined, phased, offered, responded}
+use Rattle.change.specs.Flat.{appended, waitingAt, receiverAt, phaseAt, offeredAt, joinedHead, phasedHead, joined, phased, offered, responded}
 use Rattle.change.specs.Known.{CanJoin, CanRespond, AtChannel}
 use Rattle.change.specs.Answered.{doneStep}
 use Rattle.change.proofs.Openings.{sound-called, accepts, accepted-fits}
-use Rattle.change.proofs.FlatLaws.{asked-held, asked-room, offered-held, responded-held, responded-room}
+use Rattle.change.proofs.FlatLaws.{offered-held}
+use Rattle.change.proofs.Messages.{asked-held, asked-room, Answerable, can-respond, responded-held}
 use Rattle.change.proofs.Reading.{channel-known, channel-there, channel-numbers, channel-running, resting-code, busy-code, ready-code, unready-code, none-flag, some-flag}
 
 module _ {ring : Ring} {k : ℕ} (h : AtChannel ring k) where
@@ -141,29 +142,23 @@ module _ {ring : Ring} {k : ℕ} (h : AtChannel ring k) where
           responds : Calls.send k x σ ≡ accepted done (respond k x σ)
           responds = send-accepted ∙ rw is-ready
 
-          sender-there : channel σ k .sender < nodeCount σ
-          sender-there = channel-known h .facts .each-channel k (channel-there h) .sender-below
+          -- so it may answer with the record, and its line has room for the response
+          answerable : Answerable σ k x
+          answerable =
+              record {
+                fits = fits;
+                known = channel-there h;
+                record-fits = x-fits;
+                bare = no-offer;
+                sender-there = channel-known h .facts .each-channel k (channel-there h) .sender-below;
+                next-fits = accepted-fits ring (h .ok) (Runs.send k x) responds;
+              }
 
-          response-fits : Fits (respond k x σ)
-          response-fits = accepted-fits ring (h .ok) (Runs.send k x) responds
-
-          -- what the code asks before the response joins the line
           pub send-room : CanRespond (ring .head) k
-          send-room =
-              subst (λ r. CanRespond (r .head) k) (channel-known h .laid-out)
-              (responded-room σ fits k (channel-there h) x x-fits no-offer sender-there response-fits)
+          send-room = can-respond answerable (channel-known h .laid-out)
 
-          send-responds : callRing (Runs.send k x) ring ≡ accepted done (responded ring k x)
+          pub send-responds : callRing (Runs.send k x) ring ≡ accepted done (responded ring k x)
           send-responds =
               send-in-memory
               ∙ ap heldOutcome responds
-              ∙ ap (accepted done)
-              (sym (responded-held σ fits k (channel-there h) x x-fits no-offer sender-there response-fits)
-              ∙ ap (λ r. responded r k x) (channel-known h .laid-out))
-
-          pub response-made : {r : Head} {lines carried : List ℕ} {s : HeadStep} →
-              r ≡ joinedHead (phasedHead (ring .head) k 3) (senderAt (ring .head) k) →
-              lines ≡ appended (ring .lines) (senderAt (ring .head) k) (waitingAt (ring .head) (senderAt (ring .head) k)) (k + 1) →
-              carried ≡ recorded (ring .carried) k x → s ≡ doneStep r →
-              stepIn s (ring .slots) lines (ring .offers) carried ≡ stepOf ring (callRing (Runs.send k x) ring)
-          response-made er el ec e = rw (e, er, el, ec) (accepts ring send-responds refl)
+              ∙ ap (accepted done) (sym (responded-held answerable (channel-known h .laid-out)))

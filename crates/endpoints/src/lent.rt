@@ -1,11 +1,14 @@
 // The calls of this crate on a ring whose cells and records are lent: each takes the head by value and answers the head after the call,
-// with the reply. It tests the ring first and refuses an unsound one; then come the refusals of document 01 in their order, and a refusal
-// leaves the ring as it was.
+// with the reply. It opens as every call does; then come its own refusals in the order of document 01, and a refusal leaves the ring as it
+// was.
 use batch;
 use batch::BatchRecord;
 use batch::Verdict;
 use change::answer::accept;
 use change::answer::refuse;
+use change::opening::Opening;
+use change::opening::Subject;
+use change::opening::open;
 use network::Cells;
 use network::ChannelNo;
 use network::Head;
@@ -13,7 +16,6 @@ use network::HeadStep;
 use network::Records;
 use network::Ring;
 use refusal::Refusal;
-use soundness;
 ghost use mathlib.Core.Path.{_≡_};
 ghost use Rattle.network.specs.Answers.{stepOf};
 ghost use Rattle.network.specs.Layout.{callRing, ringIn, stepIn};
@@ -33,14 +35,10 @@ pub fn receive(
         (callRing (Runs.receive (channel .0))
         (ringIn head (now (slots .entry)) (now (lines .entry)) (now (offers .entry)) (now (carried .entry)))) ⌝ }
 {
-    if !soundness::is_sound(head, slots, lines, offers, carried) {
-        return refuse(head, Refusal::UnsoundRing);
-    }
-    if head.started == 0 {
-        return refuse(head, Refusal::NotStarted);
-    }
-    if head.channel_count <= channel.0 {
-        return refuse(head, Refusal::NoSuchChannel);
+    let subject = Subject::Channel(channel);
+    let opening = open(head, slots, lines, offers, carried, subject);
+    if let Opening::Refused(refusal) = opening {
+        return refuse(head, refusal);
     }
     let k = channel.0 as usize;
     if head.phases[k] != Ring::RESTING {
@@ -67,14 +65,10 @@ pub fn send(
         (callRing (Runs.send (channel .0) «record»)
         (ringIn head (now (slots .entry)) (now (lines .entry)) (now (offers .entry)) (now (carried .entry)))) ⌝ }
 {
-    if !soundness::is_sound(head, slots, lines, offers, carried) {
-        return refuse(head, Refusal::UnsoundRing);
-    }
-    if head.started == 0 {
-        return refuse(head, Refusal::NotStarted);
-    }
-    if head.channel_count <= channel.0 {
-        return refuse(head, Refusal::NoSuchChannel);
+    let subject = Subject::Channel(channel);
+    let opening = open(head, slots, lines, offers, carried, subject);
+    if let Opening::Refused(refusal) = opening {
+        return refuse(head, refusal);
     }
     let verdict = batch::judge(record);
     if let Verdict::Refused(refusal) = verdict {

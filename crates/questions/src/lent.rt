@@ -1,5 +1,8 @@
-// The questions of this crate on a ring whose cells and records are lent. Each tests the ring first and refuses an unsound one; then come
-// the refusals of document 01 in their order. The answer is read off the head and, for where a message stands, the cells of the buffers.
+// The questions of this crate on a ring whose cells and records are lent. Each opens as every call does, and that
+// makes all its refusals. The answer is read off the head and, for where a message stands, the cells of the buffers.
+use change::opening::Opening;
+use change::opening::Subject;
+use change::opening::open;
 use hops;
 use network::Answer;
 use network::Cells;
@@ -8,8 +11,6 @@ use network::Head;
 use network::NodeNo;
 use network::Records;
 use network::Ring;
-use refusal::Refusal;
-use soundness;
 ghost use mathlib.Core.Path.{_≡_};
 ghost use Prim.Native.Nat.{_+_, _≤_, _<_};
 ghost use Rattle.network.specs.Answers.{replyOf};
@@ -30,17 +31,12 @@ pub fn hops_left(
         ≡ replyOf (callRing (hopsLeft (channel .0))
         (ringIn head (now (slots .entry)) (now (lines .entry)) (now (offers .entry)) (now (carried .entry)))) .answer ⌝ }
 {
-    if !soundness::is_sound(head, slots, lines, offers, carried) {
-        return Answer::Refused(Refusal::UnsoundRing);
+    let subject = Subject::Channel(channel);
+    let opening = open(head, slots, lines, offers, carried, subject);
+    if let Opening::Refused(refusal) = opening {
+        return Answer::Refused(refusal);
     }
-    let k = channel.0;
-    if head.started == 0 {
-        return Answer::Refused(Refusal::NotStarted);
-    }
-    if head.channel_count <= k {
-        return Answer::Refused(Refusal::NoSuchChannel);
-    }
-    let left = hops_of(head, slots, k);
+    let left = hops_of(head, slots, channel.0);
     Answer::Hops(left)
 }
 
@@ -117,14 +113,12 @@ pub fn waiting_set(
         ≡ replyOf (callRing (waitingSet (node .0))
         (ringIn head (now (slots .entry)) (now (lines .entry)) (now (offers .entry)) (now (carried .entry)))) .answer ⌝ }
 {
-    if !soundness::is_sound(head, slots, lines, offers, carried) {
-        return Answer::Refused(Refusal::UnsoundRing);
+    let subject = Subject::Tasks(node);
+    let opening = open(head, slots, lines, offers, carried, subject);
+    if let Opening::Refused(refusal) = opening {
+        return Answer::Refused(refusal);
     }
-    let p = node.0;
-    if head.node_count <= p {
-        return Answer::Refused(Refusal::NoSuchNode);
-    }
-    let set = set_of(head, p);
+    let set = set_of(head, node.0);
     Answer::Waiting(set)
 }
 

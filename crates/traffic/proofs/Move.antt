@@ -35,11 +35,12 @@ use Rattle.network.proofs.Clauses.{sound-started}
 use Rattle.network.proofs.Accepted.{first-moving}
 use Rattle.network.proofs.Memory.{Fits, OfferFits, CarriedFits, HeldNode, HeldChannel, SoundRing, record-kept, held-node}
 use Rattle.network.proofs.Changes.{fits-with-node, fits-with-channel}
-use Rattle.change.specs.Flat.{appended, shifted, recorded, capacityAt, usedAt, waitingAt, markAt, phaseAt, offeredAt, senderAt, targetAt, markAfter, joinedHead, leftHead, phasedHead, offeredHead, left, passed, phased, withdrawn, responded, handedOut}
+use Rattle.change.specs.Flat.{appended, cutAt, recorded, capacityAt, usedAt, waitingAt, markAt, phaseAt, offeredAt, senderAt, receiverAt, targetBy, markAfter, leftHead, phasedHead, offeredHead, left, passed, phased, withdrawn, responded, handedOut}
 use Rattle.change.specs.Answered.{doneStep}
-use Rattle.change.specs.Known.{CanRespond, AtNode, Leaves, Takes, Delivers, Passes}
+use Rattle.change.specs.Known.{CanRespond, Responded, AtNode, Leaves, Takes, Delivers, Passes}
 use Rattle.change.proofs.Openings.{sound-called, accepts, accepted-fits, marked, unmarked}
-use Rattle.change.proofs.FlatLaws.{first-cell, left-held, passed-held, phased-held, withdrawn-held, handed-out-held, responded-held, responded-room}
+use Rattle.change.proofs.FlatLaws.{first-cell, left-held, passed-held, phased-held, withdrawn-held, handed-out-held}
+use Rattle.change.proofs.Messages.{Answerable, can-respond, responded-held, response-made}
 use Rattle.change.proofs.Reading.{node-known, node-there, node-within, node-numbers, node-running, empty-length, asking-code, none-flag}
 
 module _ {ring : Ring} {p : ℕ} (h : AtNode ring p) where
@@ -59,8 +60,7 @@ module _ {ring : Ring} {p : ℕ} (h : AtNode ring p) where
   first-within = omega (arith, node-within h)
 
 -- the first of the buffer of p: its channel k, and those behind it
-record FirstOf (σ : Network) (p cell : ℕ) : Type 0 where
-  k : ℕ
+record FirstOf (σ : Network) (p cell k : ℕ) : Type 0 where
   ks : List ℕ
   buffer-is : node σ p .buffer ≡ k ∷ ks
   cell-is : cell ≡ suc k
@@ -69,7 +69,7 @@ record FirstOf (σ : Network) (p cell : ℕ) : Type 0 where
 
 -- the node that takes a message under way is its target
 target-here : (s : ChannelState) → moving (s .phase) ≡ true →
-    cond (eqb (phaseCode (s .phase)) 1) (s .sender) (s .receiver) ≡ targetOf s (s .phase)
+    targetBy (phaseCode (s .phase)) (s .sender) (s .receiver) ≡ targetOf s (s .phase)
 target-here s m =
     by-phase (s .phase) (λ f. both-ways m (ap moving f)) (λ f. rw f) (λ f. both-ways m (ap moving f)) (λ x f. rw f)
 
@@ -89,37 +89,35 @@ module _ {ring : Ring} {p cell : ℕ} (h : Leaves ring p cell) where
   abbrev known : SoundRing ring
   known = node-known at
 
-  first : FirstOf σ p cell
+  first : FirstOf σ p cell (cell - 1)
   first =
       let t = sound-started ringLimits σ (known .sound) (node-running at) .tables in
       by-list (node σ p .buffer) (λ e. absurd (h .some (node-numbers at .used ∙ ap length e))) λ k ks e.
       let front : row rowLength (ring .slots) p ≡ padded rowLength (cellsOf (k ∷ ks)) =
       node-numbers at .buffer-row ∙ ap (λ xs. padded rowLength (cellsOf xs)) e in
       let standing : 0 < count k (node σ p .buffer) = rw (e, weigh-cons) (omega (arith, count-same k)) in
-      record {
-        k = k;
+      let cell-is : cell ≡ suc k = h .first ∙ first-cell (ring .slots) p k ks front in
+      subst (FirstOf σ p cell) (omega arith)
+      (record {
         ks = ks;
         buffer-is = e;
-        cell-is = h .first ∙ first-cell (ring .slots) p k ks front;
+        cell-is = cell-is;
         known = known .facts .each-node p (node-there at) .in-buffer k standing .0;
         moves = first-moving (netOf σ) (stateOf σ) t p k ks (node-there at) e;
-      }
+      })
 
   abbrev k : ℕ
-  k = first .k
+  k = cell - 1
 
   abbrev ks : List ℕ
   ks = first .ks
 
-  number : cell - 1 ≡ k
-  number = omega (arith, first .cell-is)
-
-  -- what the code asks: it reads channel cell - 1, and takes the first out of the buffer
+  -- what the code asks: it reads channel k, and takes the first out of the buffer
   pub cell-used : 0 < cell
   cell-used = omega (arith, first .cell-is)
 
-  pub cell-within : cell - 1 < channelRoom
-  cell-within = omega (arith, first .cell-is, first .known, known .fits .channels-fit)
+  pub cell-within : k < channelRoom
+  cell-within = omega (arith, first .known, known .fits .channels-fit)
 
   pub leave-room : (p < nodeRoom) × (0 < usedAt (ring .head) p)
   leave-room = (node-within at, omega (arith, h .some))
@@ -127,22 +125,13 @@ module _ {ring : Ring} {p cell : ℕ} (h : Leaves ring p cell) where
   pub slots-whole : length (ring .slots) ≡ cellRoom
   slots-whole = known .holds .slots-whole
 
-  -- the channel's numbers, read at cell - 1
-  channel-is : HeldChannel ring σ (cell - 1)
-  channel-is = known .holds .channels (cell - 1) cell-within
+  -- the channel's numbers
+  channel-is : HeldChannel ring σ k
+  channel-is = known .holds .channels k cell-within
 
-  here-is : channel σ (cell - 1) ≡ channel σ k
-  here-is = ap (channel σ) number
-
-  phase-is : phaseAt (ring .head) (cell - 1) ≡ phaseCode (channel σ k .phase)
-  phase-is = channel-is .phase ∙ ap (λ s. phaseCode (s .phase)) here-is
-
-  target-is : targetAt (ring .head) (cell - 1) ≡ target σ k
+  target-is : targetBy (phaseAt (ring .head) k) (senderAt (ring .head) k) (receiverAt (ring .head) k) ≡ target σ k
   target-is =
-      (λ i. cond (eqb (phase-is i) 1)
-      ((channel-is .sender ∙ ap (λ s. s .sender) here-is) i)
-      ((channel-is .receiver ∙ ap (λ s. s .receiver) here-is) i))
-      ∙ target-here (channel σ k) (first .moves)
+      (λ i. targetBy (channel-is .phase i) (channel-is .sender i) (channel-is .receiver i)) ∙ target-here (channel σ k) (first .moves)
 
   next-is : nextNode σ p ≡ next (ring .head .«node_count») p
   next-is = ap (λ n. next n p) (sym (known .holds .node-count))
@@ -195,124 +184,105 @@ module _ {ring : Ring} {p cell : ℕ} (t : Takes ring p cell) where
   abbrev from : Leaves ring p cell
   from = t .leaves
 
-  is-asking : channel (view ring) (k from) .phase ≡ asking
-  is-asking = asking-code _ (sym (phase-is from) ∙ t .asks)
+  abbrev asker : ℕ
+  asker = k from
 
-  arrives-taken : arrival (view ring) (nextNode (view ring) p) (k from) ≡ taken
+  is-asking : channel (view ring) asker .phase ≡ asking
+  is-asking = asking-code _ (sym (channel-is from .phase) ∙ t .asks)
+
+  arrives-taken : arrival (view ring) (nextNode (view ring) p) asker ≡ taken
   unfolding arrival
   arrives-taken =
-      let same : nextNode (view ring) p ≡ target (view ring) (k from) = next-is from ∙ sym (t .arrives) ∙ target-is from in
+      let same : nextNode (view ring) p ≡ target (view ring) asker =
+      next-is from ∙ sym (t .arrives) ∙ channel-is from .sender ∙ ap (targetOf (channel (view ring) asker)) (sym is-asking) in
       rw (eq-eqb _ _ same, is-asking)
 
-  takes : Calls.move p (view ring) ≡ accepted done (takeRequest (k from) (channel (view ring) (k from) .offer) (behind from))
+  takes : Calls.move p (view ring) ≡ accepted done (takeRequest asker (channel (view ring) asker .offer) (behind from))
   takes = handed from arrives-taken
 
-  flag-is : offeredAt (ring .head) (cell - 1) ≡ offeredFlag (channel (view ring) (k from) .offer)
-  flag-is = channel-is from .offered ∙ ap (λ s. offeredFlag (s .offer)) (here-is from)
-
   -- no record is offered: the channel becomes ready
-  take-ready : offeredAt (ring .head) (cell - 1) ≡ 0 →
-      callRing (Runs.move p) ring ≡ accepted done (phased (left ring p) (cell - 1) 2)
+  take-ready : offeredAt (ring .head) asker ≡ 0 → callRing (Runs.move p) ring ≡ accepted done (phased (left ring p) asker 2)
   take-ready bare =
-      let no-offer : channel (view ring) (k from) .offer ≡ none = none-flag _ (sym flag-is ∙ bare) in
-      let memory : phased (left ring p) (cell - 1) 2 ≡ hold (withChannel (k from) ready none (behind from)) =
-      ap (λ r. phased r (cell - 1) 2) (behind-held from)
-      ∙ ap (λ j. phased (hold (behind from)) j 2) (number from)
-      ∙ phased-held (behind from) (behind-fits from) (k from) (first from .known) ready (rw is-asking)
-      ∙ ap (λ o. hold (withChannel (k from) ready o (behind from))) no-offer in
+      let no-offer : channel (view ring) asker .offer ≡ none = none-flag _ (sym (channel-is from .offered) ∙ bare) in
+      let memory : phased (left ring p) asker 2 ≡ hold (withChannel asker ready none (behind from)) =
+      ap (λ r. phased r asker 2) (behind-held from)
+      ∙ phased-held (behind from) (behind-fits from) asker (first from .known) ready (rw is-asking)
+      ∙ ap (λ o. hold (withChannel asker ready o (behind from))) no-offer in
       in-memory (at from)
-      ∙ ap heldOutcome (takes ∙ ap (λ o. accepted done (takeRequest (k from) o (behind from))) no-offer)
+      ∙ ap heldOutcome (takes ∙ ap (λ o. accepted done (takeRequest asker o (behind from))) no-offer)
       ∙ ap (accepted done) (sym memory)
 
   -- a record is offered: it goes out as the response
-  module _ (has : offeredAt (ring .head) (cell - 1) ≢ 0) where
+  module _ (has : offeredAt (ring .head) asker ≢ 0) where
     abbrev x : BatchRecord
-    x = recordAt (ring .offers) (cell - 1)
+    x = recordAt (ring .offers) asker
 
-    is-offered : channel (view ring) (k from) .offer ≡ some x
+    is-offered : channel (view ring) asker .offer ≡ some x
     is-offered =
-        offer-is _ _ (known from .fits .offer-fits (k from) (first from .known))
-        (channel-is from .offer-row ∙ ap (λ s. padded recordLength (offerBytes (s .offer))) (here-is from))
-        (λ e. has (flag-is ∙ e))
+        offer-is _ _ (known from .fits .offer-fits asker (first from .known)) (channel-is from .offer-row)
+        (λ e. has (channel-is from .offered ∙ e))
 
-    x-fits : RecordFits x
-    x-fits = subst OfferFits is-offered (known from .fits .offer-fits (k from) (first from .known))
-
-    responds : Calls.move p (view ring) ≡ accepted done (respond (k from) x (behind from))
-    responds = takes ∙ ap (λ o. accepted done (takeRequest (k from) o (behind from))) is-offered
+    responds : Calls.move p (view ring) ≡ accepted done (respond asker x (behind from))
+    responds = takes ∙ ap (λ o. accepted done (takeRequest asker o (behind from))) is-offered
 
     -- the ring without the offer
     abbrev bare : Network
-    bare = withChannel (k from) (channel (behind from) (k from) .phase) none (behind from)
+    bare = withChannel asker (channel (behind from) asker .phase) none (behind from)
 
-    bare-held : withdrawn (left ring p) (cell - 1) ≡ hold bare
+    bare-held : withdrawn (left ring p) asker ≡ hold bare
     bare-held =
-        ap (λ r. withdrawn r (cell - 1)) (behind-held from)
-        ∙ ap (withdrawn (hold (behind from))) (number from)
-        ∙ withdrawn-held (behind from) (behind-fits from) (k from) (first from .known)
+        ap (λ r. withdrawn r asker) (behind-held from)
+        ∙ withdrawn-held (behind from) (behind-fits from) asker (first from .known)
 
-    bare-fits : Fits bare
-    bare-fits =
-        fits-with-channel (behind from) (behind-fits from) (k from) _ none (first from .known) tt
-        (behind-fits from .carried-fits (k from) (first from .known))
-
-    still-there : k from < channelCount bare
-    still-there = rw length-set (first from .known)
-
-    bare-channel : channel bare (k from)
+    bare-channel : channel bare asker
         ≡ record {
-          sender = channel (view ring) (k from) .sender;
-          receiver = channel (view ring) (k from) .receiver;
-          phase = channel (view ring) (k from) .phase;
+          sender = channel (view ring) asker .sender;
+          receiver = channel (view ring) asker .receiver;
+          phase = channel (view ring) asker .phase;
           offer = none;
         }
-    bare-channel = getD-set-same (behind from .channels) (k from) _ noChannel (first from .known)
+    bare-channel = getD-set-same (behind from .channels) asker _ noChannel (first from .known)
 
-    bare-sender : channel bare (k from) .sender < nodeCount bare
-    bare-sender = rw bare-channel (sender-there from)
+    response-is : respond asker x bare ≡ respond asker x (behind from)
+    response-is = respond-after (behind from) asker _ x (first from .known)
 
-    response-is : respond (k from) x bare ≡ respond (k from) x (behind from)
-    response-is = respond-after (behind from) (k from) _ x (first from .known)
+    answerable : Answerable bare asker x
+    answerable =
+        record {
+          fits = fits-with-channel (behind from) (behind-fits from) asker _ none (first from .known) tt (behind-fits from .carried-fits asker (first from .known));
+          known = rw length-set (first from .known);
+          record-fits = subst OfferFits is-offered (known from .fits .offer-fits asker (first from .known));
+          bare = ap (λ s. s .offer) bare-channel;
+          sender-there = rw bare-channel (sender-there from);
+          next-fits = subst Fits (sym response-is) (accepted-fits ring (at from .ok) (Runs.move p) responds);
+        }
 
-    response-fits : Fits (respond (k from) x bare)
-    response-fits = subst Fits (sym response-is) (accepted-fits ring (at from .ok) (Runs.move p) responds)
-
-    take-room : CanRespond (withdrawn (left ring p) (cell - 1) .head) (cell - 1)
-    take-room =
-        subst (λ r. CanRespond (r .head) (cell - 1)) (sym bare-held)
-        (rw (number from)
-        (responded-room bare bare-fits (k from) still-there x x-fits (ap (λ s. s .offer) bare-channel) bare-sender response-fits))
-
-    take-responds : callRing (Runs.move p) ring ≡ accepted done (responded (withdrawn (left ring p) (cell - 1)) (cell - 1) x)
+    take-responds : callRing (Runs.move p) ring ≡ accepted done (responded (withdrawn (left ring p) asker) asker x)
     take-responds =
         in-memory (at from)
         ∙ ap heldOutcome responds
-        ∙ ap (accepted done)
-        (sym
-        (ap (λ r. responded r (cell - 1) x) bare-held
-        ∙ ap (λ j. responded (hold bare) j x) (number from)
-        ∙ responded-held bare bare-fits (k from) still-there x x-fits (ap (λ s. s .offer) bare-channel) bare-sender response-fits
-        ∙ ap hold response-is))
+        ∙ ap (accepted done) (sym (responded-held answerable (sym bare-held) ∙ ap hold response-is))
 
-  -- the same of what the code made, one change after the other: h is the head without the message, and so on
+  -- the same of what the code made, one change after the other: h is the head without the message
 
-  module _ {h : Head} {slots : List ℕ} (eh : h ≡ leftHead (ring .head) p) (es : slots ≡ shifted (ring .slots) p) where
-    pub ready-made : {s : HeadStep} → offeredAt h (cell - 1) ≡ 0 → s ≡ doneStep (phasedHead h (cell - 1) 2) →
+  module _ {h : Head} {slots : List ℕ} (eh : h ≡ leftHead (ring .head) p) (es : slots ≡ cutAt (ring .slots) p 0) where
+    pub ready-made : {s : HeadStep} → offeredAt h asker ≡ 0 → s ≡ doneStep (phasedHead h asker 2) →
         stepIn s slots (ring .lines) (ring .offers) (ring .carried) ≡ stepOf ring (callRing (Runs.move p) ring)
     ready-made bare e = rw (e, es, eh) (accepts ring (take-ready (rw eh at bare)) refl)
 
-    module _ (has : offeredAt h (cell - 1) ≢ 0) where
-      pub can-respond : CanRespond (offeredHead h (cell - 1) 0) (cell - 1)
-      can-respond = rw eh (take-room (λ e. has (rw eh e)))
+    module _ (has : offeredAt h asker ≢ 0) where
+      pub take-room : CanRespond (offeredHead h asker 0) asker
+      take-room =
+          let offered : offeredAt (ring .head) asker ≢ 0 = λ e. has (rw eh e) in
+          rw eh (can-respond (answerable offered) (sym (bare-held offered)))
 
-      pub response-made : {r : Head} {x : BatchRecord} {lines offers carried : List ℕ} {s : HeadStep} →
-          x ≡ recordAt (ring .offers) (cell - 1) → offers ≡ recorded (ring .offers) (cell - 1) noRecord →
-          r ≡ joinedHead (phasedHead (offeredHead h (cell - 1) 0) (cell - 1) 3) (senderAt h (cell - 1)) →
-          lines ≡ appended (ring .lines) (senderAt h (cell - 1)) (waitingAt h (senderAt h (cell - 1))) (cell - 1 + 1) →
-          carried ≡ recorded (ring .carried) (cell - 1) x → s ≡ doneStep r →
+      pub take-made : {r : Head} {x : BatchRecord} {lines offers carried : List ℕ} {s : HeadStep} →
+          x ≡ recordAt (ring .offers) asker → offers ≡ recorded (ring .offers) asker noRecord →
+          Responded (offeredHead h asker 0) (ring .lines) (ring .carried) asker x r lines carried → s ≡ doneStep r →
           stepIn s slots lines offers carried ≡ stepOf ring (callRing (Runs.move p) ring)
-      response-made ex eo er el ec e =
-          rw (e, er, el, ec, eo, ex, es, eh) (accepts ring (take-responds (λ bare. has (rw eh bare))) refl)
+      take-made ex eo made e =
+          rw (eo, es)
+          (response-made ring (withdrawn (left ring p) asker) (take-responds (λ bare. has (rw eh bare))) (rw (eh, ex) at made) e)
 
 -- a response is delivered
 
@@ -325,30 +295,31 @@ module _ {ring : Ring} {p cell : ℕ} (t : Delivers ring p cell) where
 
   is-answering : channel (view ring) (k leaving) .phase ≡ answering record-carried
   is-answering =
-      carried-is _ _ (known leaving .fits .carried-fits (k leaving) (first leaving .known))
-      (channel-is leaving .carried-row ∙ ap (λ s. padded recordLength (carriedBytes (s .phase))) (here-is leaving))
+      carried-is _ _ (known leaving .fits .carried-fits (k leaving) (first leaving .known)) (channel-is leaving .carried-row)
       (first leaving .moves)
-      (λ e. t .answers (phase-is leaving ∙ e))
+      (λ e. t .answers (channel-is leaving .phase ∙ e))
 
   arrives-delivered : arrival (view ring) (nextNode (view ring) p) (k leaving) ≡ arrived record-carried
   unfolding arrival
   arrives-delivered =
-      let same : nextNode (view ring) p ≡ target (view ring) (k leaving) = next-is leaving ∙ sym (t .arrives) ∙ target-is leaving in
+      let same : nextNode (view ring) p ≡ target (view ring) (k leaving) =
+      next-is leaving
+      ∙ sym (t .arrives)
+      ∙ channel-is leaving .receiver
+      ∙ ap (targetOf (channel (view ring) (k leaving))) (sym is-answering) in
       rw (eq-eqb _ _ same, is-answering)
 
-  deliver-done : callRing (Runs.move p) ring
-      ≡ accepted (delivered (cell - 1) record-carried) (handedOut (left ring p) (cell - 1))
+  deliver-done : callRing (Runs.move p) ring ≡ accepted (delivered (k leaving) record-carried) (handedOut (left ring p) (k leaving))
   deliver-done =
-      let memory : handedOut (left ring p) (cell - 1) ≡ hold (deliver (k leaving) (behind leaving)) =
-      ap (λ r. handedOut r (cell - 1)) (behind-held leaving)
-      ∙ ap (handedOut (hold (behind leaving))) (number leaving)
+      let memory : handedOut (left ring p) (k leaving) ≡ hold (deliver (k leaving) (behind leaving)) =
+      ap (λ r. handedOut r (k leaving)) (behind-held leaving)
       ∙ handed-out-held (behind leaving) (behind-fits leaving) (k leaving) (first leaving .known) in
       in-memory (at leaving)
       ∙ ap heldOutcome (handed leaving arrives-delivered)
-      ∙ (λ i. accepted (delivered (sym (number leaving) i) record-carried) (sym memory i))
+      ∙ ap (accepted (delivered (k leaving) record-carried)) (sym memory)
 
   pub delivery-made : {h : Head} {x : BatchRecord} {slots carried : List ℕ} {d : ℕ} →
-      h ≡ leftHead (ring .head) p → slots ≡ shifted (ring .slots) p → x ≡ recordAt (ring .carried) (cell - 1) →
+      h ≡ leftHead (ring .head) p → slots ≡ cutAt (ring .slots) p 0 → x ≡ recordAt (ring .carried) (cell - 1) →
       carried ≡ recorded (ring .carried) (cell - 1) noRecord → d ≡ oneMore (h .deliveries) →
       stepIn (record { head = withDeliveries (phasedHead h (cell - 1) 0) d; reply = eventReply (delivered (cell - 1) x) }) slots
       (ring .lines)
@@ -442,7 +413,7 @@ module _ {ring : Ring} {p q cell : ℕ} (t : Passes ring p q cell) where
       passing-room = rw eh pass-room
 
       pub passing-made : {slots before : List ℕ} {mark : ℕ} {s : HeadStep} → markAt (ring .head) q ≡ 0 →
-          before ≡ shifted (ring .slots) p → slots ≡ appended before q (usedAt h q) cell →
+          before ≡ cutAt (ring .slots) p 0 → slots ≡ appended before q (usedAt h q) cell →
           mark ≡ markAfter (waitingAt h q) (markAt h q) →
           s ≡ doneStep (withNodes h (set (h .used) q (usedAt h q + 1)) (h .waiting) (set (h .marks) q mark)) →
           stepIn s slots (ring .lines) (ring .offers) (ring .carried) ≡ stepOf ring (callRing (Runs.move p) ring)

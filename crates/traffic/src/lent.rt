@@ -1,8 +1,11 @@
 // The calls of this crate on a ring whose cells and records are lent: each takes the head by value and answers the head after the call,
-// with the reply. It tests the ring first and refuses an unsound one; then come the refusals of document 01 in their order, and a refusal
-// leaves the ring as it was.
+// with the reply. It opens as every call does; then come its own refusals in the order of document 01, and a refusal leaves the ring as it
+// was.
 use change::answer::accept;
 use change::answer::refuse;
+use change::opening::Opening;
+use change::opening::Subject;
+use change::opening::open;
 use network::Answer;
 use network::Cells;
 use network::ChannelNo;
@@ -13,16 +16,13 @@ use network::Records;
 use network::Reply;
 use network::Ring;
 use refusal::Refusal;
-use soundness;
 ghost use mathlib.Core.Path.{_≡_};
 ghost use Prim.Native.Nat.{_<_, _+_};
-ghost use mathlib.Core.Bool.{cond};
-ghost use lib.Dec.{eqb};
 ghost use Rattle.hops.specs.Hops.{next};
 ghost use Rattle.network.specs.Answers.{stepOf};
 ghost use Rattle.network.specs.Layout.{callRing, ringIn, stepIn};
 ghost use Rattle.network.specs.Runs;
-ghost use Rattle.change.specs.Flat.{markAfter};
+ghost use Rattle.change.specs.Flat.{markAfter, targetBy};
 ghost use Rattle.change.specs.Known.{AtNode, Takes, Delivers, Passes};
 
 // The first of the node's line goes to the end of its buffer, and the turn mark is cleared.
@@ -39,14 +39,10 @@ pub fn enter(
         (callRing (Runs.enter (node .0))
         (ringIn head (now (slots .entry)) (now (lines .entry)) (now (offers .entry)) (now (carried .entry)))) ⌝ }
 {
-    if !soundness::is_sound(head, slots, lines, offers, carried) {
-        return refuse(head, Refusal::UnsoundRing);
-    }
-    if head.started == 0 {
-        return refuse(head, Refusal::NotStarted);
-    }
-    if head.node_count <= node.0 {
-        return refuse(head, Refusal::NoSuchNode);
+    let subject = Subject::Node(node);
+    let opening = open(head, slots, lines, offers, carried, subject);
+    if let Opening::Refused(refusal) = opening {
+        return refuse(head, refusal);
     }
     enter_at(head, slots, lines, offers, carried, node)
 }
@@ -77,7 +73,7 @@ pub fn enter_at(
     }
     let first = lines[network::ROW * p];
     change::put(slots, p, used, first);
-    change::shift(lines, p);
+    change::cut(lines, p, 0);
     head.used[p] = used + 1;
     head.waiting[p] = waiting - 1;
     head.marks[p] = 0;
@@ -99,14 +95,10 @@ pub fn move_on(
         (callRing (Runs.move (node .0))
         (ringIn head (now (slots .entry)) (now (lines .entry)) (now (offers .entry)) (now (carried .entry)))) ⌝ }
 {
-    if !soundness::is_sound(head, slots, lines, offers, carried) {
-        return refuse(head, Refusal::UnsoundRing);
-    }
-    if head.started == 0 {
-        return refuse(head, Refusal::NotStarted);
-    }
-    if head.node_count <= node.0 {
-        return refuse(head, Refusal::NoSuchNode);
+    let subject = Subject::Node(node);
+    let opening = open(head, slots, lines, offers, carried, subject);
+    if let Opening::Refused(refusal) = opening {
+        return refuse(head, refusal);
     }
     move_at(head, slots, lines, offers, carried, node)
 }
@@ -159,7 +151,7 @@ fn next_node(count: u8, p: u8) -> u8
 
 // The node that takes the message of a channel: a request goes to the sender node, a response to the receiver node.
 fn target_of(phase: u8, sender: u8, receiver: u8) -> u8
-    ensures { λ r. ⌜ r ≡ cond (eqb phase 1) sender receiver ⌝ }
+    ensures { λ r. ⌜ r ≡ targetBy phase sender receiver ⌝ }
 {
     if phase == Ring::ASKING {
         return sender;

@@ -1,135 +1,118 @@
 -- `endpoints::lent::send` meets its contract: each return carries what the tests showed to the law of its case. Assumes nothing.
 use mathlib.Core.Path.{_≡_, refl, sym, _∙_}
-use mathlib.Core.Bool.{true}
 use mathlib.Core.List.{[], _∷_}
 use types.Run.{OneOf, miss}
 use denote.Enum.Declared.{tagOf}
 use borrow.Author.Needs.{needs}
+use Rattle.batch.specs.declared.BatchRecord.{BatchRecord}
 use Rattle.batch.specs.declared.Verdict.{Verdict}
 use Rattle.batch.specs.declared.Verdict.the-variants.{Good, Refused}
 use Rattle.batch.specs.Good.{verdictOf}
 use Rattle.batch.proofs.Verdict.{the-type}
 use Rattle.network.specs.declared.Ring.{Ring}
 use Rattle.network.specs.Runs
-use Rattle.network.specs.Layout.{ringIn, soundRing}
+use Rattle.network.specs.Layout.{ringIn}
 use Rattle.change.specs.Known.{AtChannel}
-use Rattle.change.proofs.Openings.{turned-down, passed-test, unsound-refused, refuses, accepts, idle-refused, channel-refused}
+use Rattle.change.proofs.Openings.{turns-away, channel-open, refuses, accepts}
+use Rattle.change.proofs.Messages.{response-made}
 use Rattle.change.proofs.Reading.{channel-within}
-use Rattle.endpoints.proofs.Offers.{send-bad, send-again, send-offered, send-room, response-made}
+use Rattle.endpoints.proofs.Offers.{send-bad, send-again, send-offered, send-room, send-responds}
 use Rattle.endpoints.proofs.lent.send.Statement.{statement}
 use Rattle.endpoints.proofs.lent.send.Tie as tie
 
--- the start, and the ring that was given
-abbrev start : tie.After-is-sound → tie.Start
+-- the start, the ring that was given, and that its opening was not refused
+abbrev start : tie.After-open → tie.Start
 start c = c .before .before .before .before
 
-abbrev given : tie.After-is-sound → Ring
-given c =
-    let a = start c .args in
-    ringIn (a .t1) (a .slots .now) (a .lines .now) (a .offers .now) (a .carried .now)
+abbrev given : tie.After-open → Ring
+given c = let a = start c .args in ringIn (a .t1) (a .slots .now) (a .lines .now) (a .offers .now) (a .carried .now)
 
-ok : (c : tie.Else1) → soundRing (given (c .before)) ≡ true
-ok c = passed-test (c .before .is-sound .ensures) (c .if1 .left)
+at-channel : (c : tie.After-enum-told) → AtChannel (given (c .before .before)) (start (c .before .before) .args .channel .0)
+at-channel c = channel-open _ (c .before .before .open .ensures) (c .before .match .keys2)
 
-returns : tie.Need-returns
-returns c =
-    let tested = c .before .before in
-    refuses (given tested)
-    (unsound-refused (Runs.send (start tested .args .channel .0) (start tested .args .«record»)) (given tested) (turned-down (tested .is-sound .ensures) (c .before .if1 .taken)))
-    (c .refuse .ensures)
+-- the verdict that is no refusal
+no-refusal : (v : Verdict) → OneOf (0 ∷ []) (tagOf the-type v) → v ≡ Good
+no-refusal Good k = refl
+no-refusal (Refused r) k = absurd (miss (0 ∷ []) 1 tt k)
 
 returns-2 : tie.Need-returns-2
 returns-2 c =
-    let sound = c .before .before in
-    refuses (given (sound .before))
-    (idle-refused (given (sound .before)) (ok sound) (Runs.send (start (sound .before) .args .channel .0) (start (sound .before) .args .«record»)) refl (c .before .if2 .taken))
-    (c .refuse2 .ensures)
+    let told = c .before .before in
+    let judged = told .before .before in
+    refuses _ (send-bad (at-channel (judged .before)) _ _ (sym (judged .judge .ensures) ∙ told .verdict .given .1)) (c .refuse2 .ensures)
+
+returns : tie.Need-returns
+returns c =
+    let told = c .before .before in
+    turns-away (Runs.send _ _) _ (told .before .before .open .ensures) (told .opening .given .1) (c .refuse .ensures)
+
+-- the record is good
+module _ (c : tie.After-struct-known) where
+  abbrev judged : tie.After-judge
+  judged = c .before .before .before
+
+  abbrev there : tie.After-enum-told
+  there = judged .before
+
+  abbrev sent : BatchRecord
+  sent = start (there .before .before) .args .«record»
+
+  good : verdictOf sent ≡ Good
+  good = sym (judged .judge .ensures) ∙ no-refusal _ (c .before .before .match2 .keys2)
+
+  known : AtChannel (given (there .before .before)) (start (there .before .before) .args .channel .0)
+  known = at-channel there
+
+element-copy-out-if1 : tie.Need-element-copy-out-if1
+element-copy-out-if1 c = channel-within (known c)
 
 returns-3 : tie.Need-returns-3
 returns-3 c =
-    let going = c .before .before .before in
-    let sound = going .before in
-    refuses (given (sound .before))
-    (channel-refused (given (sound .before)) (ok sound) (Runs.send (start (sound .before) .args .channel .0) (start (sound .before) .args .«record»)) refl (going .if2 .left)
-    (c .before .if3 .taken))
-    (c .refuse3 .ensures)
+    let fine = c .before .before .before in
+    refuses _ (send-again (known fine) _ (good fine) (c .before .if1 .taken)) (c .refuse3 .ensures)
 
--- the ring is sound and started, and the channel is one of its own
-at-channel : (c : tie.Else3) →
-    let tested = c .before .before .before .before in
-    AtChannel (given tested) (start tested .args .channel .0)
-at-channel c =
-    let going = c .before .before in
-    record { ok = ok (going .before); going = going .if2 .left; there = c .if3 .left }
+-- no record is offered yet
+abbrev fine : tie.Else1 → tie.After-struct-known
+fine c = c .before .before
 
--- the verdict that is no refusal
-not-refused : (v : Verdict) → OneOf (0 ∷ []) (tagOf the-type v) → v ≡ Good
-not-refused Good k = refl
-not-refused (Refused r) k = absurd (miss (0 ∷ []) 1 tt k)
+element-copy-out-if2 : tie.Need-element-copy-out-if2
+element-copy-out-if2 c = channel-within (known (fine c))
 
-good : (c : tie.At-match-keys2) → verdictOf (start (c .before .before .before .before .before .before) .args .«record») ≡ Good
-good c = sym (c .before .judge .ensures) ∙ not-refused _ (c .match .keys2)
-
--- the record is good, and no record is offered
-abbrev judged : tie.Else4 → tie.At-match-keys2
-judged c = c .before .before .before .before
-
-abbrev there : tie.At-match-keys2 → tie.Else3
-there c = c .before .before
-
-returns-4 : tie.Need-returns-4
-returns-4 c =
-    let told = c .before .before in
-    let asked = told .before .before in
-    refuses _ (send-bad (at-channel (asked .before)) _ _ (sym (asked .judge .ensures) ∙ told .verdict .given .1)) (c .refuse4 .ensures)
-
-element-copy-out-if4 : tie.Need-element-copy-out-if4
-element-copy-out-if4 c = channel-within (at-channel (there (c .before .before)))
-
-returns-5 : tie.Need-returns-5
-returns-5 c =
-    let is-good = c .before .before .before .before .before in
-    refuses _ (send-again (at-channel (there is-good)) _ (good is-good) (c .before .if4 .taken)) (c .refuse5 .ensures)
-
-element-copy-out-if5 : tie.Need-element-copy-out-if5
-element-copy-out-if5 c = channel-within (at-channel (there (judged c)))
-
+-- the channel waits for the record, which goes out as the response
 respond-requires : tie.Need-respond-requires
 respond-requires c κs =
     let waits = c .before .before in
     let free = waits .before .before in
-    send-room (at-channel (there (judged free))) _ (good (judged free)) (free .if4 .left) (waits .if5 .taken)
+    send-room (known (fine free)) _ (good (fine free)) (free .if1 .left) (waits .if2 .taken)
 
-returns-6 : tie.Need-returns-6
-returns-6 c =
+returns-4 : tie.Need-returns-4
+returns-4 c =
     let answers = c .before in
     let waits = answers .before .before .before in
     let free = waits .before .before in
-    response-made (at-channel (there (judged free))) _ (good (judged free)) (free .if4 .left) (waits .if5 .taken)
-    (answers .respond .ensures .0)
-    (answers .respond .ensures .1 .0)
-    (answers .respond .ensures .1 .1)
+    response-made _ _ (send-responds (known (fine free)) _ (good (fine free)) (free .if1 .left) (waits .if2 .taken))
+    (answers .respond .ensures)
     (c .accept .ensures)
 
+-- it does not, and the record is offered
 set-record-requires : tie.Need-set-record-requires
-set-record-requires c κs = channel-within (at-channel (there (judged (c .before .before .before))))
+set-record-requires c κs = channel-within (known (fine (c .before .before .before)))
 
 element-write-head : tie.Need-element-write-head
-element-write-head c = channel-within (at-channel (there (judged (c .before .before .before .before))))
+element-write-head c = channel-within (known (fine (c .before .before .before .before)))
 
-returns-7 : tie.Need-returns-7
-returns-7 c =
+returns-5 : tie.Need-returns-5
+returns-5 c =
     let put = c .before in
     let unready = put .before .before in
     let free = unready .before .before in
     rw (put .set-record .ensures)
-    (accepts _ (send-offered (at-channel (there (judged free))) _ (good (judged free)) (free .if4 .left) (unready .if5 .left))
-    (c .accept2 .ensures))
+    (accepts _ (send-offered (known (fine free)) _ (good (fine free)) (free .if1 .left) (unready .if2 .left)) (c .accept2 .ensures))
 
 pub send-spec : {M : Type 1} → statement M
 send-spec =
     tie.close
-    (tie.spec (λ c κs. search needs) (λ c κs. search needs) returns (λ c κs. search needs) returns-2 (λ c κs. search needs) returns-3
-    (λ c κs. search needs) (λ c. search needs) (λ c κs. search needs) returns-4 (λ c. search needs) (λ c. search needs)
-    element-copy-out-if4 (λ c κs. search needs) returns-5 element-copy-out-if5 respond-requires (λ c κs. search needs) returns-6
-    set-record-requires element-write-head (λ c κs. search needs) returns-7)
+    (tie.spec (λ c κs. search needs) (λ c. search needs) (λ c κs. search needs) returns (λ c. search needs) (λ c κs. search needs)
+    (λ c. search needs) (λ c κs. search needs) returns-2 (λ c. search needs) (λ c. search needs) element-copy-out-if1 (λ c κs. search needs)
+    returns-3 element-copy-out-if2 respond-requires (λ c κs. search needs) returns-4 set-record-requires element-write-head
+    (λ c κs. search needs) returns-5)

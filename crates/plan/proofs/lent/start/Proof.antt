@@ -16,13 +16,13 @@ given c = let a = c .before .args in ringIn (a .head) (a .slots .now) (a .lines 
 planned : (c : tie.After-enum-told) → Planned (given (c .before .before))
 planned c = plan-open _ (c .before .before .open .ensures) (c .before .match .keys2)
 
+returns-2 : tie.Need-returns-2
+returns-2 c = refuses _ (start-no-node (planned (c .before .before .before)) (c .before .if1 .taken)) (c .refuse2 .ensures)
+
 returns : tie.Need-returns
 returns c =
     let told = c .before .before in
     turns-away Runs.start _ (told .before .before .open .ensures) (told .opening .given .1) (c .refuse .ensures)
-
-returns-2 : tie.Need-returns-2
-returns-2 c = refuses _ (start-no-node (planned (c .before .before .before)) (c .before .if1 .taken)) (c .refuse2 .ensures)
 
 returns-3 : tie.Need-returns-3
 returns-3 c =

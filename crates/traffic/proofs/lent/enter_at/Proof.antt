@@ -41,40 +41,43 @@ put-requires c κs =
     let h = start (waits free .before) .pre in
     (node-within h, enter-room h (waits free .if1 .left) (free .if2 .left))
 
-shift-requires : tie.Need-shift-requires
-shift-requires c κs =
+cut-requires : tie.Need-cut-requires
+cut-requires c κs =
     let h = start (waits (c .before .before .before .before) .before) .pre in
-    (node-within h, node-known h .holds .lines-whole)
+    ((node-within h, omega arith), node-known h .holds .lines-whole)
 
--- where both rows are changed
-abbrev changed : tie.After-shift → tie.Else2
-changed c = c .before .before .before .before .before
+-- where both rows are changed: the slot that was free, and what is known of the node
+abbrev put : tie.After-cut → tie.After-put
+put c = c .before .before
+
+abbrev free : tie.After-put → tie.Else2
+free c = c .before .before .before
 
 add-head : tie.Need-add-head
 add-head c =
-    let free = changed c in
-    omega (arith, enter-room (start (waits free .before) .pre) (waits free .if1 .left) (free .if2 .left))
+    let slot = free (put c) in
+    omega (arith, enter-room (start (waits slot .before) .pre) (waits slot .if1 .left) (slot .if2 .left))
 
 element-write-head : tie.Need-element-write-head
-element-write-head c = node-within (start (waits (changed c) .before) .pre)
+element-write-head c = node-within (start (waits (free (put c)) .before) .pre)
 
 element-write-head-2 : tie.Need-element-write-head-2
-element-write-head-2 c = node-within (start (waits (changed c) .before) .pre)
+element-write-head-2 c = node-within (start (waits (free (put c)) .before) .pre)
 
 element-write-head-3 : tie.Need-element-write-head-3
-element-write-head-3 c = node-within (start (waits (changed c) .before) .pre)
+element-write-head-3 c = node-within (start (waits (free (put c)) .before) .pre)
 
 returns-3 : tie.Need-returns-3
 returns-3 c =
-    let shift = c .before in
-    let free = changed shift in
-    let h = start (waits free .before) .pre in
-    rw (shift .shift .ensures, shift .before .before .put .ensures)
-    (accepts _ (enter-done h (waits free .if1 .left) (free .if2 .left)) (c .accept .ensures))
+    let cut = c .before in
+    let slot = free (put cut) in
+    let h = start (waits slot .before) .pre in
+    rw (cut .cut .ensures, put cut .put .ensures)
+    (accepts _ (enter-done h (waits slot .if1 .left) (slot .if2 .left)) (c .accept .ensures))
 
 pub enter-at-spec : {M : Type 1} → statement M
 enter-at-spec =
     tie.close
     (tie.spec (λ c. search needs) element-copy-out-used element-copy-out-waiting (λ c κs. search needs) returns element-copy-out-if2
-    (λ c κs. search needs) returns-2 (λ c. search needs) element-copy-out-first put-requires shift-requires add-head element-write-head
+    (λ c κs. search needs) returns-2 (λ c. search needs) element-copy-out-first put-requires cut-requires add-head element-write-head
     (λ c. search needs) element-write-head-2 element-write-head-3 (λ c κs. search needs) returns-3)

@@ -4,10 +4,11 @@ use mathlib.Core.Path.{_≡_, refl, sym, _∙_}
 use native.Mathlib.Omega.{arith}
 use lib.ListN.{getD}
 use borrow.Author.Needs.{needs}
+use borrow.Author.Tests.{eq-eqb, ne-eqb}
 use Rattle.hops.specs.Hops.{next}
 use Rattle.network.specs.declared.Ring.{Ring}
 use Rattle.network.specs.Layout.{rowLength, ringIn}
-use Rattle.change.specs.Flat.{targetAt}
+use Rattle.change.specs.Flat.{phaseAt, senderAt, receiverAt, targetBy}
 use Rattle.change.specs.Known.{Leaves}
 use Rattle.change.proofs.Openings.{refuses}
 use Rattle.change.proofs.Reading.{node-within}
@@ -19,8 +20,11 @@ use Rattle.traffic.proofs.lent.move_at.Tie as tie
 abbrev start : tie.Else1 → tie.Start
 start c = c .before .before
 
+abbrev next-known : tie.After-target-of → tie.After-next-node
+next-known c = c .before .before .before .before
+
 abbrev some : tie.After-target-of → tie.Else1
-some c = c .before .before .before .before .before .before
+some c = next-known c .before .before
 
 -- the ring that was given, and the first cell of the buffer
 abbrev given : tie.Else1 → Ring
@@ -32,9 +36,9 @@ leaves : (c : tie.Else1) → Leaves (given c) (start c .args .node .0) (getD (gi
 leaves c = record { at-node = start c .pre; some = c .if1 .left; first = refl }
 
 -- the next node, once it was worked out
-next-is : (c : tie.After-target-of) → c .before .before .before .before .next-node .result
+next-is : (c : tie.After-target-of) → next-known c .next-node .result
     ≡ next (given (some c) .head .«node_count») (start (some c) .args .node .0)
-next-is c = c .before .before .before .before .next-node .ensures
+next-is c = next-known c .next-node .ensures
 
 element-copy-out-if1 : tie.Need-element-copy-out-if1
 element-copy-out-if1 c = node-within (c .pre)
@@ -73,20 +77,31 @@ pass-requires c κs =
       elsewhere = λ e. passes .if2 .taken (known .target-of .ensures ∙ e);
     }
 
--- the message is at its target
-arrives : (c : tie.Else2) → targetAt (given (some (c .before)) .head) (getD (given (some (c .before)) .slots) (rowLength * start (some (c .before)) .args .node .0) 0 - 1)
-    ≡ next (given (some (c .before)) .head .«node_count») (start (some (c .before)) .args .node .0)
+-- the message is at its target: a request at its sender, a response at its receiver
+arrives : (c : tie.Else2) →
+    let known = c .before in
+    let h = given (some known) .head in
+    let k = getD (given (some known) .slots) (rowLength * start (some known) .args .node .0) 0 - 1 in
+    targetBy (phaseAt h k) (senderAt h k) (receiverAt h k) ≡ next (h .«node_count») (start (some known) .args .node .0)
 arrives c = sym (c .before .target-of .ensures) ∙ c .if2 .left ∙ next-is (c .before)
 
 take-requires : tie.Need-take-requires
 take-requires c κs =
     let asks = c .before .before .before .before in
-    record { leaves = leaves (some (asks .before .before)); asks = asks .if3 .taken; arrives = arrives (asks .before) }
+    record {
+      leaves = leaves (some (asks .before .before));
+      asks = asks .if3 .taken;
+      arrives = rw (eq-eqb _ 1 (asks .if3 .taken)) at (arrives (asks .before));
+    }
 
 deliver-requires : tie.Need-deliver-requires
 deliver-requires c κs =
     let answers = c .before .before .before .before in
-    record { leaves = leaves (some (answers .before .before)); answers = answers .if3 .left; arrives = arrives (answers .before) }
+    record {
+      leaves = leaves (some (answers .before .before));
+      answers = answers .if3 .left;
+      arrives = rw (ne-eqb _ 1 (answers .if3 .left)) at (arrives (answers .before));
+    }
 
 pub move-at-spec : {M : Type 1} → statement M
 move-at-spec =

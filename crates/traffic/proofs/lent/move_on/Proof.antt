@@ -1,56 +1,25 @@
--- `traffic::lent::move_on` meets its contract: the refusals that calls share, and then what `move_at` answers. Assumes nothing.
-use mathlib.Core.Path.{_≡_, refl}
-use mathlib.Core.Bool.{true}
+-- `traffic::lent::move_on` meets its contract: a refused opening is the call's refusal, and an open one is what `move_at` asks. Assumes nothing.
 use borrow.Author.Needs.{needs}
-use Rattle.network.specs.declared.Ring.{Ring}
 use Rattle.network.specs.Runs
-use Rattle.network.specs.Layout.{ringIn, soundRing}
-use Rattle.change.proofs.Openings.{turned-down, passed-test, unsound-refused, refuses, idle-refused, node-refused}
+use Rattle.change.proofs.Openings.{turns-away, node-open}
 use Rattle.traffic.proofs.lent.move_on.Statement.{statement}
 use Rattle.traffic.proofs.lent.move_on.Tie as tie
 
-abbrev start : tie.After-is-sound → tie.Start
-start c = c .before .before .before .before .before
-
--- the ring that was given, and that it passed the test
-abbrev given : tie.After-is-sound → Ring
-given c =
-    let a = start c .args in
-    ringIn (a .head) (a .slots .now) (a .lines .now) (a .offers .now) (a .carried .now)
-
-ok : (c : tie.Else1) → soundRing (given (c .before)) ≡ true
-ok c = passed-test (c .before .is-sound .ensures) (c .if1 .left)
-
 returns : tie.Need-returns
 returns c =
-    let tested = c .before .before in
-    refuses (given tested)
-    (unsound-refused (Runs.move (start tested .args .node .0)) (given tested) (turned-down (tested .is-sound .ensures) (c .before .if1 .taken)))
-    (c .refuse .ensures)
+    let told = c .before .before in
+    turns-away (Runs.move _) _ (told .before .before .open .ensures) (told .opening .given .1) (c .refuse .ensures)
 
-returns-2 : tie.Need-returns-2
-returns-2 c =
-    let sound = c .before .before .before in
-    refuses (given (sound .before))
-    (idle-refused (given (sound .before)) (ok sound) (Runs.move (start (sound .before) .args .node .0)) refl (c .before .if2 .taken))
-    (c .refuse2 .ensures)
-
-returns-3 : tie.Need-returns-3
-returns-3 c =
-    let going = c .before .before .before .before in
-    let sound = going .before .before in
-    refuses (given (sound .before))
-    (node-refused (given (sound .before)) (ok sound) (Runs.move (start (sound .before) .args .node .0)) refl (going .if2 .left) (c .before .if3 .taken))
-    (c .refuse3 .ensures)
+-- the opening was not refused, from where the parts are lent on
+abbrev opened : tie.After-move-at-arg → tie.At-match-keys2
+opened c = c .before .before
 
 move-at-requires : tie.Need-move-at-requires
 move-at-requires c κs =
-    let there = c .before .before .before .before in
-    let going = there .before .before .before in
-    record { ok = ok (going .before .before); going = going .if2 .left; there = there .if3 .left }
+    let told = opened (c .before .before .before) in
+    node-open _ (told .before .open .ensures) (told .match .keys2)
 
 pub move-on-spec : {M : Type 1} → statement M
 move-on-spec =
     tie.close
-    (tie.spec (λ c κs. search needs) (λ c κs. search needs) returns (λ c κs. search needs) returns-2 (λ c κs. search needs) returns-3
-    move-at-requires (λ c. search needs))
+    (tie.spec (λ c κs. search needs) (λ c. search needs) (λ c κs. search needs) returns (λ c. search needs) move-at-requires (λ c. search needs))

@@ -1,6 +1,6 @@
 -- `traffic::lent::take` meets its contract: each return carries what the test showed to the law of its case. Assumes nothing.
 use borrow.Author.Needs.{needs}
-use Rattle.traffic.proofs.Move.{cell-used, cell-within, leave-room, slots-whole, ready-made, can-respond, response-made}
+use Rattle.traffic.proofs.Move.{cell-used, cell-within, leave-room, slots-whole, ready-made, take-room, take-made}
 use Rattle.traffic.proofs.lent.take.Statement.{statement}
 use Rattle.traffic.proofs.lent.take.Tie as tie
 
@@ -45,7 +45,7 @@ respond-requires : tie.Need-respond-requires
 respond-requires c κs =
     let offered = has (c .before .before) in
     let left = gone (offered .before) in
-    can-respond (start left .pre) (left .leave .ensures .0) (left .leave .ensures .1) (offered .if1 .left)
+    take-room (start left .pre) (left .leave .ensures .0) (left .leave .ensures .1) (offered .if1 .left)
 
 returns-2 : tie.Need-returns-2
 returns-2 c =
@@ -54,11 +54,9 @@ returns-2 c =
     let read = cleared .before .before in
     let offered = has cleared in
     let left = gone (offered .before) in
-    response-made (start left .pre) (left .leave .ensures .0) (left .leave .ensures .1) (offered .if1 .left) (read .record-of .ensures)
+    take-made (start left .pre) (left .leave .ensures .0) (left .leave .ensures .1) (offered .if1 .left) (read .record-of .ensures)
     (cleared .clear-record .ensures)
-    (responded .respond .ensures .0)
-    (responded .respond .ensures .1 .0)
-    (responded .respond .ensures .1 .1)
+    (responded .respond .ensures)
     (c .accept2 .ensures)
 
 pub take-spec : {M : Type 1} → statement M
