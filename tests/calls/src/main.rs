@@ -1,10 +1,12 @@
-//! calls COUNT SEED: makes COUNT calls of the library, each also on the model, and compares the answer and every byte of the ring after it.
+//! calls COUNT SEED: makes COUNT calls of the library, each also on the model and, where the ring is sound, on the second model, and
+//! compares the answer and every byte of the ring after it.
 //! The rings come from runs from a fresh one, from hand-made ones, and from both with bytes changed. Besides, commands are read and
 //! written. Fails on a difference, and when a refusal from 1 to 26 was never answered.
 
 mod draw;
 mod form;
 mod model;
+mod second;
 mod tape;
 
 use damaged_rings::damage::{change_place, change_whole};
@@ -112,6 +114,9 @@ impl Pair {
         if self.ring != after {
             let at = self.ring.to_bytes().iter().zip(after.to_bytes()).position(|(a, b)| *a != b);
             return Err(format!("{call:?}, {given:?}: the rings differ, first at byte {at:?}\nbefore: {before:?}"));
+        }
+        if self.model.is_some() && second::call(&before, call) != (given, self.ring) {
+            return Err(format!("{call:?}, {given:?}: the second model differs\nbefore: {before:?}"));
         }
         if self.ring.is_sound() != self.model.is_some() {
             return Err(format!("the library says that sound is {}\n{:?}", self.ring.is_sound(), self.ring));
