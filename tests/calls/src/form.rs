@@ -1,0 +1,135 @@
+//! How a network lies in memory (include/vessel_ring.h), and back.
+
+use crate::model::{Channel, Network, Node, Phase, Record};
+use std::collections::VecDeque;
+use vessel_ring::{Ring, CHANNELS, NODES, RECORD_BYTES, ROW};
+
+/// "Batch number 4, vessel 1, temperature 2, name length 1, name 32", low byte first
+pub fn record_bytes(record: &Record) -> [u8; RECORD_BYTES] {
+    let mut bytes = [0; RECORD_BYTES];
+    bytes[..4].copy_from_slice(&record.batch.to_le_bytes());
+    bytes[4] = record.vessel;
+    bytes[5..7].copy_from_slice(&record.temperature.to_le_bytes());
+    bytes[7] = record.length;
+    bytes[8..].copy_from_slice(&record.name);
+    bytes
+}
+
+pub fn record_in(bytes: &[u8; RECORD_BYTES]) -> Record {
+    Record {
+        batch: u32::from_le_bytes([bytes[0], bytes[1], bytes[2], bytes[3]]),
+        vessel: bytes[4],
+        temperature: i16::from_le_bytes([bytes[5], bytes[6]]),
+        length: bytes[7],
+        name: bytes[8..].try_into().expect("32 bytes"),
+    }
+}
+
+const EMPTY: Ring = Ring {
+    deliveries: 0,
+    started: 0,
+    node_count: 0,
+    channel_count: 0,
+    spare: 0,
+    capacity: [0; NODES],
+    used: [0; NODES],
+    waiting: [0; NODES],
+    marks: [0; NODES],
+    senders: [0; CHANNELS],
+    receivers: [0; CHANNELS],
+    phases: [0; CHANNELS],
+    offered: [0; CHANNELS],
+    slots: [[0; ROW]; NODES],
+    lines: [[0; ROW]; NODES],
+    offers: [[0; RECORD_BYTES]; CHANNELS],
+    carried: [[0; RECORD_BYTES]; CHANNELS],
+};
+
+fn lay_queue(queue: &VecDeque<usize>, row: &mut [u8; ROW]) -> u8 {
+    for (cell, k) in row.iter_mut().zip(queue) {
+        *cell = *k as u8 + 1;
+    }
+    queue.len() as u8
+}
+
+/// The ring of a network, whose counts fit.
+pub fn lay(network: &Network) -> Ring {
+    let mut ring = EMPTY;
+    ring.deliveries = network.deliveries;
+    ring.started = network.started.into();
+    ring.node_count = network.nodes.len() as u8;
+    ring.channel_count = network.channels.len() as u8;
+    for (p, node) in network.nodes.iter().enumerate() {
+        ring.capacity[p] = node.slots as u8;
+        ring.used[p] = lay_queue(&node.buffer, &mut ring.slots[p]);
+        ring.waiting[p] = lay_queue(&node.line, &mut ring.lines[p]);
+        ring.marks[p] = node.mark.into();
+    }
+    for (k, channel) in network.channels.iter().enumerate() {
+        ring.senders[k] = channel.sender as u8;
+        ring.receivers[k] = channel.receiver as u8;
+        ring.phases[k] = match channel.phase {
+            Phase::Resting => 0,
+            Phase::Asking => 1,
+            Phase::Ready => 2,
+            Phase::Answering(record) => {
+                ring.carried[k] = record_bytes(&record);
+                3
+            }
+        };
+        if let Some(record) = channel.offer {
+            ring.offered[k] = 1;
+            ring.offers[k] = record_bytes(&record);
+        }
+    }
+    ring
+}
+
+/// The channel numbers in the used cells of a row.
+fn queue_in(row: &[u8; ROW], used: u8, channels: usize) -> Option<VecDeque<usize>> {
+    let cells = row.get(..used.into())?;
+    cells.iter().map(|cell| usize::from(*cell).checked_sub(1).filter(|k| *k < channels)).collect()
+}
+
+fn nodes_in(ring: &Ring, channels: usize) -> Option<Vec<Node>> {
+    let nodes = 0..usize::from(ring.node_count);
+    nodes
+        .map(|p| {
+            Some(Node {
+                slots: usize::from(*ring.capacity.get(p)?),
+                buffer: queue_in(&ring.slots[p], ring.used[p], channels)?,
+                line: queue_in(&ring.lines[p], ring.waiting[p], channels)?,
+                mark: ring.marks[p] == 1,
+            })
+        })
+        .collect()
+}
+
+fn channels_in(ring: &Ring) -> Option<Vec<Channel>> {
+    let channels = 0..usize::from(ring.channel_count);
+    channels
+        .map(|k| {
+            let phase = match *ring.phases.get(k)? {
+                0 => Phase::Resting,
+                1 => Phase::Asking,
+                2 => Phase::Ready,
+                3 => Phase::Answering(record_in(&ring.carried[k])),
+                _ => return None,
+            };
+            Some(Channel {
+                sender: ring.senders[k].into(),
+                receiver: ring.receivers[k].into(),
+                phase,
+                offer: (ring.offered[k] == 1).then(|| record_in(&ring.offers[k])),
+            })
+        })
+        .collect()
+}
+
+/// The network that a ring is, if it is sound. Laid out again it has to be this ring: so flags are 0 or 1 and what holds nothing is zero.
+pub fn sound_network(ring: &Ring) -> Option<Network> {
+    let channels = channels_in(ring)?;
+    let nodes = nodes_in(ring, channels.len())?;
+    let network = Network { nodes, channels, started: ring.started == 1, deliveries: ring.deliveries };
+    (lay(&network) == *ring && network.sound()).then_some(network)
+}

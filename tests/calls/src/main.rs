@@ -1,0 +1,293 @@
+//! calls COUNT SEED: makes COUNT calls of the library, each also on the model and, where the ring is sound, on the second model, and
+//! compares the answer and every byte of the ring after it.
+//! The rings come from runs from a fresh one, from hand-made ones, and from both with bytes changed. Besides, commands are read and
+//! written. Fails on a difference, and when a refusal from 1 to 26 was never answered.
+
+mod draw;
+mod form;
+mod model;
+mod second;
+mod tape;
+
+use damaged_rings::damage::{change_place, change_whole};
+use draw::Random;
+use model::{Answer, Call, Network, Record};
+use std::process::ExitCode;
+use tape::Read;
+use vessel_ring::{Command, Ring};
+
+/// How often each refusal was answered; 0 is none.
+struct Tally {
+    calls: u64,
+    refusals: [u64; 27],
+    deliveries: u64,
+    damaged: u64,
+    still_sound: u64,
+    commands: u64,
+}
+
+fn to_c(record: Record) -> vessel_ring::Record {
+    let Record { batch, vessel, temperature, length, name } = record;
+    vessel_ring::Record { batch, vessel, name_length: length, temperature, name }
+}
+
+fn from_c(record: vessel_ring::Record) -> Record {
+    let vessel_ring::Record { batch, vessel, name_length, temperature, name } = record;
+    Record { batch, vessel, temperature, length: name_length, name }
+}
+
+fn plain(refusal: u8) -> Answer {
+    if refusal == 0 {
+        Answer::Done
+    } else {
+        Answer::Refused(refusal)
+    }
+}
+
+/// The call by the library. A field that the answer does not have has to be zero.
+fn library(ring: &mut Ring, call: Call) -> Answer {
+    match call {
+        Call::AddNode(slots) => plain(ring.add_node(slots)),
+        Call::AddChannel(sender, receiver) => plain(ring.add_channel(sender, receiver)),
+        Call::Start => plain(ring.start()),
+        Call::Receive(channel) => plain(ring.receive(channel)),
+        Call::Send(channel, record) => plain(ring.send(channel, to_c(record))),
+        Call::Enter(node) => plain(ring.enter(node)),
+        Call::Move(node) => {
+            let moved = ring.move_on(node);
+            if moved.delivered == 1 {
+                assert_eq!(moved.refusal, 0, "a delivery is no refusal");
+                return Answer::Delivered(moved.channel.into(), from_c(moved.record));
+            }
+            let blank = vessel_ring::Delivery { refusal: moved.refusal, ..Default::default() };
+            assert_eq!(moved, blank, "no delivery, so nothing beside the refusal");
+            plain(moved.refusal)
+        }
+        Call::HopsLeft(channel) => {
+            let left = ring.hops_left(channel);
+            assert!(left.refusal == 0 || left.hops == 0, "a refusal answers its number alone");
+            if left.refusal == 0 {
+                Answer::Hops(left.hops.into())
+            } else {
+                Answer::Refused(left.refusal)
+            }
+        }
+        Call::WaitingSet(node) => {
+            let waiting = ring.waiting_set(node);
+            assert!(waiting.refusal == 0 || waiting.set == 0, "a refusal answers its number alone");
+            assert_eq!(waiting.tasks, waiting.set.count_ones(), "the tasks are the ones of the set");
+            if waiting.refusal == 0 {
+                Answer::Waiting(waiting.set)
+            } else {
+                Answer::Refused(waiting.refusal)
+            }
+        }
+    }
+}
+
+/// A ring of the library with what the model has for it: nothing where the ring is unsound.
+struct Pair {
+    ring: Ring,
+    model: Option<Network>,
+}
+
+impl Pair {
+    fn of(ring: Ring) -> Pair {
+        Pair { ring, model: form::sound_network(&ring) }
+    }
+
+    /// One call on both. Says what differs.
+    fn call(&mut self, call: Call, tally: &mut Tally) -> Result<(), String> {
+        let before = self.ring;
+        let given = library(&mut self.ring, call);
+        let expected = self.model.as_mut().map_or(Answer::Refused(25), |network| network.call(call));
+        let after = self.model.as_ref().map_or(before, form::lay);
+        tally.calls += 1;
+        match given {
+            Answer::Refused(number) => tally.refusals[usize::from(number)] += 1,
+            Answer::Delivered(..) => tally.deliveries += 1,
+            _ => tally.refusals[0] += 1,
+        }
+        if given != expected {
+            return Err(format!("{call:?}: the library answers {given:?}, the model {expected:?}\nbefore: {before:?}"));
+        }
+        if self.ring != after {
+            let at = self.ring.to_bytes().iter().zip(after.to_bytes()).position(|(a, b)| *a != b);
+            return Err(format!("{call:?}, {given:?}: the rings differ, first at byte {at:?}\nbefore: {before:?}"));
+        }
+        if self.model.is_some() && second::call(&before, call) != (given, self.ring) {
+            return Err(format!("{call:?}, {given:?}: the second model differs\nbefore: {before:?}"));
+        }
+        if self.ring.is_sound() != self.model.is_some() {
+            return Err(format!("the library says that sound is {}\n{:?}", self.ring.is_sound(), self.ring));
+        }
+        Ok(())
+    }
+
+    fn size(&self) -> (usize, usize) {
+        (usize::from(self.ring.node_count), usize::from(self.ring.channel_count))
+    }
+}
+
+/// A run from a fresh ring, or on one made by hand.
+fn sound_run(random: &mut Random, tally: &mut Tally) -> Result<Pair, String> {
+    let mut pair = if random.percent(60) {
+        let mut pair = Pair::of(Ring::fresh());
+        for call in draw::plan(random) {
+            pair.call(call, tally)?;
+        }
+        pair
+    } else {
+        Pair::of(form::lay(&draw::by_hand(random)))
+    };
+    if pair.model.is_none() {
+        return Err(format!("a ring that was made sound is not, by the model: {:?}", pair.ring));
+    }
+    for _ in 0..random.between(0, 400) {
+        let (nodes, channels) = pair.size();
+        pair.call(draw::running_call(random, nodes, channels), tally)?;
+    }
+    Ok(pair)
+}
+
+/// The ring with bytes changed; then some calls on what it is now.
+fn damaged_run(ring: &Ring, random: &mut Random, tally: &mut Tally) -> Result<(), String> {
+    let mut bytes = ring.to_bytes();
+    if random.percent(5) {
+        change_whole(&mut bytes, random);
+    } else {
+        for _ in 0..random.between(1, 3) {
+            change_place(&mut bytes, random);
+        }
+    }
+    let mut pair = Pair::of(Ring::from_bytes(&bytes));
+    tally.damaged += 1;
+    tally.still_sound += u64::from(pair.model.is_some());
+    let (nodes, channels) = pair.size();
+    for _ in 0..9 {
+        pair.call(draw::any_call(random, nodes.min(16), channels.min(64)), tally)?;
+    }
+    Ok(())
+}
+
+fn command_of(call: Call) -> Option<Command> {
+    let (code, first, second) = match call {
+        Call::AddNode(slots) => (0x10, slots, 0),
+        Call::AddChannel(sender, receiver) => (0x11, sender, receiver),
+        Call::Start => (0x12, 0, 0),
+        Call::Receive(channel) => (0x20, channel, 0),
+        Call::Send(channel, _) => (0x21, channel, 0),
+        Call::Enter(node) => (0x22, node, 0),
+        Call::Move(node) => (0x23, node, 0),
+        Call::HopsLeft(_) | Call::WaitingSet(_) => return None,
+    };
+    let record = match call {
+        Call::Send(_, record) => to_c(record),
+        _ => vessel_ring::Record::default(),
+    };
+    Some(Command { code, first, second, record })
+}
+
+/// A command at a place of a drawn tape: read, then another written there and read back.
+fn commands(random: &mut Random, tally: &mut Tally) -> Result<(), String> {
+    let mut tape: Vec<u8> = (0..random.below(100)).map(|_| random.byte()).collect();
+    for byte in &mut tape {
+        if random.percent(50) {
+            *byte = random.pick(&[0x10, 0x11, 0x12, 0x20, 0x21, 0x22, 0x23]);
+        }
+    }
+    let drawn = random.between(0, tape.len() + 1);
+    let place = random.pick(&[drawn, drawn, drawn, tape.len(), usize::MAX]);
+    compare_reading(&tape, place, tally)?;
+    let call = draw::any_call(random, 200, 200);
+    let mut command = command_of(call).unwrap_or_default();
+    if random.percent(50) && command.code != 0x21 {
+        command.record = to_c(draw::record(random));
+    }
+    let mut by_model = tape.clone();
+    let bytes = tape::command_bytes(call);
+    let expected = bytes.map_or(Err(22), |bytes| tape::write(&mut by_model, place, &bytes));
+    let before = tape.clone();
+    let writing = vessel_ring::write(&mut tape, place, command);
+    tally.commands += 1;
+    tally.refusals[usize::from(writing.refusal)] += 1;
+    let given = if writing.refusal == 0 { Ok(writing.next) } else { Err(writing.refusal) };
+    if given != expected || tape != by_model || (given.is_err() && writing.next != 0) {
+        return Err(format!("{command:?} written at {place} of {before:?}: {writing:?}, {tape:?}; the model: {expected:?}"));
+    }
+    compare_reading(&tape, place, tally)
+}
+
+fn compare_reading(tape: &[u8], place: usize, tally: &mut Tally) -> Result<(), String> {
+    let reading = vessel_ring::read(tape, place);
+    tally.commands += 1;
+    tally.refusals[usize::from(reading.refusal)] += 1;
+    let expected = tape::read(tape, place);
+    let same = match expected {
+        Read::Command(call, next) => {
+            (reading.refusal, reading.end, reading.next) == (0, 0, next) && Some(reading.command) == command_of(call)
+        }
+        Read::End => (reading.refusal, reading.end, reading.next) == (0, 1, 0),
+        Read::Refused(number) => (reading.refusal, reading.end, reading.next) == (number, 0, 0),
+    };
+    if !same {
+        return Err(format!("{tape:?} at {place}: {reading:?}; the model: {expected:?}"));
+    }
+    Ok(())
+}
+
+/// All bytes FF: refused by all nine calls.
+fn all_ff(tally: &mut Tally, random: &mut Random) -> Result<(), String> {
+    let mut pair = Pair::of(Ring::from_bytes(&[0xFF; 7496]));
+    for _ in 0..40 {
+        pair.call(draw::any_call(random, 16, 64), tally)?;
+    }
+    Ok(())
+}
+
+fn compare(count: u64, seed: u64, tally: &mut Tally) -> Result<(), String> {
+    all_ff(tally, &mut Random::new(seed))?;
+    let mut run = 0;
+    while tally.calls < count {
+        let mut random = Random::new(seed.wrapping_mul(0x9E37_79B9_7F4A_7C15) ^ run);
+        let in_run = |difference| format!("seed {seed}, run {run}: {difference}");
+        let pair = sound_run(&mut random, tally).map_err(in_run)?;
+        for _ in 0..3 {
+            damaged_run(&pair.ring, &mut random, tally).map_err(in_run)?;
+        }
+        for _ in 0..20 {
+            commands(&mut random, tally).map_err(in_run)?;
+        }
+        run += 1;
+    }
+    Ok(())
+}
+
+fn main() -> ExitCode {
+    let numbers: Vec<Option<u64>> = std::env::args().skip(1).map(|word| word.parse().ok()).collect();
+    let [Some(count), Some(seed)] = numbers[..] else {
+        eprintln!("calls COUNT SEED");
+        return ExitCode::from(2);
+    };
+    let mut tally = Tally { calls: 0, refusals: [0; 27], deliveries: 0, damaged: 0, still_sound: 0, commands: 0 };
+    if let Err(difference) = compare(count, seed, &mut tally) {
+        println!("{difference}");
+        return ExitCode::FAILURE;
+    }
+    let Tally { calls, refusals, deliveries, damaged, still_sound, commands } = tally;
+    println!("{calls} calls, {deliveries} deliveries; {damaged} damaged rings, {still_sound} still sound; {commands} commands read or written");
+    let mut never = Vec::new();
+    for (number, times) in refusals.iter().enumerate().skip(1) {
+        print!("{number}:{times} ");
+        if *times == 0 {
+            never.push(number);
+        }
+    }
+    println!();
+    if !never.is_empty() {
+        println!("never refused with {never:?}");
+        return ExitCode::FAILURE;
+    }
+    println!("no difference");
+    ExitCode::SUCCESS
+}

@@ -1,0 +1,33 @@
+//! The same call by `tests/second_model`, on a sound ring: a third opinion.
+
+use crate::form::{record_bytes, record_in};
+use crate::model::{Answer, Call};
+use damaged_rings::layout::{lay_out, put_record, read_back, read_record};
+use second_model::ring::{ChannelNumber, Delivery, NodeNumber, Refusal};
+use vessel_ring::{Ring, RECORD_BYTES};
+
+/// The answer and the ring after it.
+pub fn call(ring: &Ring, call: Call) -> (Answer, Ring) {
+    let mut bytes = ring.to_bytes();
+    let mut model = read_back(&bytes);
+    let done = |_: ()| Answer::Done;
+    let answer: Result<Answer, Refusal> = match call {
+        Call::AddNode(slots) => model.add_node(slots).map(done),
+        Call::AddChannel(sender, receiver) => model.add_channel(NodeNumber(sender), NodeNumber(receiver)).map(done),
+        Call::Start => model.start().map(done),
+        Call::Receive(channel) => model.receive(ChannelNumber(channel)).map(done),
+        Call::Send(channel, record) => model.send(ChannelNumber(channel), &read_record(&record_bytes(&record))).map(done),
+        Call::Enter(node) => model.enter_at(NodeNumber(node)).map(done),
+        Call::Move(node) => model.move_at(NodeNumber(node)).map(|moved| moved.map_or(Answer::Done, delivered)),
+        Call::HopsLeft(channel) => model.hops_left(ChannelNumber(channel)).map(|hops| Answer::Hops(hops.into())),
+        Call::WaitingSet(node) => model.waiting_set(NodeNumber(node)).map(Answer::Waiting),
+    };
+    lay_out(&model, &mut bytes);
+    (answer.unwrap_or_else(|refusal| Answer::Refused(refusal as u8)), Ring::from_bytes(&bytes))
+}
+
+fn delivered(delivery: Delivery) -> Answer {
+    let mut bytes = [0; RECORD_BYTES];
+    put_record(&mut bytes, &delivery.record);
+    Answer::Delivered(delivery.channel.0.into(), record_in(&bytes))
+}
