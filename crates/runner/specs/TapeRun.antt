@@ -12,13 +12,14 @@ use Rattle.tape.specs.declared.Command.{Command}
 use Rattle.tape.specs.declared.ReadAnswer.{ReadAnswer}
 use Rattle.tape.specs.declared.ReadAnswer.the-variants.{Read, End, Refused}
 use Rattle.tape.specs.Tape.{readAt}
-use Rattle.runner.specs.Calls.{callOf}
+use Rattle.network.specs.Answers.{callOf}
+use Rattle.runner.specs.Calls.{ringCall}
 use Rattle.runner.specs.Session.{longest, beginning, afterLines}
 
 -- the ring calls of the next n lines of a tape from a place on: a command that was read is a call, and what follows it; the end and a
 -- command that the reader refuses are none, and nothing further is read
 abbrev pub callThen : ReadAnswer → Command → (ℕ → List Call) → List Call
-callThen (Read next) c rest = callOf c ∷ rest next
+callThen (Read next) c rest = callOf (ringCall (c .action)) (c .«record») ∷ rest next
 callThen End c rest = []
 callThen (Refused r) c rest = []
 

@@ -12,6 +12,8 @@ use Rattle.network.proofs.NodeNo as N
 use Rattle.network.proofs.NodeNo.Laws as N′
 use Rattle.network.proofs.Reply as P
 use Rattle.network.proofs.Reply.Laws as P′
+use Rattle.network.proofs.RingCall as K
+use Rattle.network.proofs.RingCall.Laws as K′
 use Rattle.network.proofs.Step as S
 use Rattle.network.proofs.Step.Laws as S′
 use Rattle.site.proofs.Machine.{parts}
@@ -26,6 +28,9 @@ channel-no = struct-kind C.the-type C′.the-laws C′.the-copy
 
 abbrev pub batch-record : Kind
 batch-record = struct-kind B.the-type B′.the-laws B′.the-copy
+
+abbrev pub ring-call : Kind
+ring-call = enum-kind K.the-type K′.the-laws tt K′.the-copy
 
 abbrev pub answer : Kind
 answer = enum-kind A.the-type A′.the-laws tt A′.the-copy

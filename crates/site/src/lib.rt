@@ -16,7 +16,9 @@ use network::ChannelNo;
 use network::NodeNo;
 use network::Reply;
 use network::Ring;
+use network::RingCall;
 ghost use mathlib.Core.Path.{_≡_};
+ghost use Rattle.network.specs.Answers.{callOf};
 ghost use Rattle.network.specs.Runs;
 ghost use Rattle.site.specs.InPlace.{ringAfter, replyTo, answerTo};
 
@@ -102,4 +104,14 @@ pub fn waiting_set(ring: &Ring, node: NodeNo) -> Answer
     ensures { λ r. ⌜ r ≡ answerTo (Runs.waitingSet (node .0)) (now (ring .entry)) ⌝ }
 {
     questions::waiting_set(*ring, node)
+}
+
+// Makes any of the ring calls, told by its name; the record is that of a send and plays no part in another call.
+pub fn perform(ring: &mut Ring, call: RingCall, record: BatchRecord) -> Reply
+    ensures { λ r. ⌜ (now (ring .exit) ≡ ringAfter (callOf call «record») (now (ring .entry)))
+        × (r ≡ replyTo (callOf call «record») (now (ring .entry))) ⌝ }
+{
+    let s = calls::perform(*ring, call, record);
+    *ring = s.ring;
+    s.reply
 }
