@@ -12,7 +12,7 @@ use Rattle.refusal.specs.declared.Refusal.the-variants.{AlreadyStarted, NodesFu
 use Rattle.batch.specs.declared.BatchRecord.{BatchRecord}
 use Rattle.batch.specs.declared.Verdict.{Verdict}
 use Rattle.batch.specs.declared.Verdict.the-variants.{Good, Refused}
-use Rattle.batch.specs.Good.{verdictOf}
+use Rattle.batch.specs.Good.{sendVerdict}
 pub use Rattle.batch.specs.Good.{unless}
 use Rattle.hops.specs.Hops.{hops}
 use Rattle.network.specs.Counting.{one, sum, count, occupied}
@@ -172,7 +172,7 @@ unfoldable pub send : ℕ → BatchRecord → Network → Outcome Network
 send k x σ =
     unless (σ .started) (refused NotStarted)
     (unless (ltb k (channelCount σ)) (refused NoSuchChannel)
-    (ifGood (verdictOf x)
+    (ifGood (sendVerdict x)
     (unless (absent (channel σ k .offer)) (refused AlreadyOffered)
     (accepted done (offerTo k x σ)))))
 

@@ -5,22 +5,14 @@ use mathlib.Core.Path.{_≡_}
 use mathlib.Core.List.{List, [], _∷_, _++_, map}
 use lib.IntN.{ℤ, pos, negℤ}
 use lib.ListN.{length, getD, replicate}
-use Rattle.refusal.specs.Number.{numberOf}
 use Rattle.batch.specs.declared.BatchRecord.{BatchRecord}
-use Rattle.batch.specs.declared.Verdict.{Verdict}
-use Rattle.batch.specs.declared.Verdict.the-variants.{Good, Refused}
-use Rattle.batch.specs.Good.{verdictOf}
+use Rattle.batch.specs.Good.{verdictOf, verdictNumber}
 use Rattle.hops.specs.Hops.{hops}
 use Rattle.network.specs.Network.{Network}
 use Rattle.network.specs.Calls.{Outcome}
 use Rattle.network.specs.Runs.{Call, addNode, addChannel, start, receive, send, enter, move, run, bound}
 use Rattle.network.specs.Layout.{view, freshRing, callRing}
 use Rattle.network.specs.Answers.{outcomeNumber, says, delivers, answers}
-
--- document 01's number for a verdict on a record
-abbrev pub verdictNumber : Verdict → ℕ
-verdictNumber Good = 0
-verdictNumber (Refused r) = numberOf r
 
 -- the calls that plan nodes of so many slots each and channels from sender to receiver
 pub record Ends : Type 0 where
