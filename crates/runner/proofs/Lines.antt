@@ -18,6 +18,7 @@ use Rattle.tape.specs.declared.Command.{Command}
 use Rattle.tape.specs.declared.Reading.{Reading}
 use Rattle.tape.specs.declared.ReadAnswer.{ReadAnswer}
 use Rattle.tape.specs.declared.ReadAnswer.the-variants.{Read, End, Refused}
+use Rattle.tape.specs.Shape.{widthOf}
 use Rattle.tape.specs.Table.{Row, rowOf}
 use Rattle.tape.specs.Tape.{readAt, readRow}
 use Rattle.listing.specs.Line.{lineOf, endOf, tooLong}
@@ -39,10 +40,10 @@ ahead-row : (tape : List ℕ) (place : ℕ) (r : Row) → place < length tape
 unfolding readRow
 ahead-row tape place r h =
     let size = length-drop place tape in
-    by-same (r .width) 0 (λ e. rw (eq-eqb (r .width) 0 e) (λ q. omega arith)) λ e.
-    by-less (length (drop place tape)) (r .width)
-    (λ l. rw (ne-eqb (r .width) 0 e, lt-ltb (length (drop place tape)) (r .width) l) (λ q. omega arith))
-    λ l. rw (ne-eqb (r .width) 0 e, le-ltb (length (drop place tape)) (r .width) l) (omega arith, omega arith)
+    by-same (widthOf (r .shape)) 0 (λ e. rw (eq-eqb (widthOf (r .shape)) 0 e) (λ q. omega arith)) λ e.
+    by-less (length (drop place tape)) (widthOf (r .shape))
+    (λ l. rw (ne-eqb (widthOf (r .shape)) 0 e, lt-ltb (length (drop place tape)) (widthOf (r .shape)) l) (λ q. omega arith))
+    λ l. rw (ne-eqb (widthOf (r .shape)) 0 e, le-ltb (length (drop place tape)) (widthOf (r .shape)) l) (omega arith, omega arith)
 
 ahead : (tape : List ℕ) (place : ℕ) → Ahead tape place (readAt tape place .answer)
 unfolding readAt

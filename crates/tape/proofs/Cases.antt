@@ -7,7 +7,8 @@ use lib.ListN.{length, getD, drop}
 use borrow.Author.Tests.{lt-ltb, le-ltb, eq-eqb, ne-eqb}
 use Rattle.refusal.specs.declared.Refusal.the-variants.{UnknownCommand, CommandCut}
 use Rattle.tape.specs.declared.ReadAnswer.the-variants.{Refused}
-use Rattle.tape.specs.Table.{Row, rowOf}
+use Rattle.tape.specs.Shape.{widthOf}
+use Rattle.tape.specs.Table.{Row, rowOf, commandIn}
 use Rattle.tape.specs.Tape.{withNone, readRow, readAt}
 use Rattle.tape.specs.RoundTrip.{found}
 
@@ -18,14 +19,14 @@ unfolding readAt
 by-row bytes place h = rw (le-ltb (length bytes) place (omega arith), ne-eqb place (length bytes) (omega arith))
 
 module _ (r : Row) (place : ℕ) (b : List ℕ) where
-  pub row-unknown : r .width ≡ 0 → readRow r place b ≡ withNone (Refused UnknownCommand)
+  pub row-unknown : widthOf (r .shape) ≡ 0 → readRow r place b ≡ withNone (Refused UnknownCommand)
   unfolding readRow
-  row-unknown h = rw (eq-eqb (r .width) 0 h)
+  row-unknown h = rw (eq-eqb (widthOf (r .shape)) 0 h)
 
-  pub row-cut : 0 < r .width → length b < r .width → readRow r place b ≡ withNone (Refused CommandCut)
+  pub row-cut : 0 < widthOf (r .shape) → length b < widthOf (r .shape) → readRow r place b ≡ withNone (Refused CommandCut)
   unfolding readRow
-  row-cut s h = rw (ne-eqb (r .width) 0 (omega arith), lt-ltb (length b) (r .width) h)
+  row-cut s h = rw (ne-eqb (widthOf (r .shape)) 0 (omega arith), lt-ltb (length b) (widthOf (r .shape)) h)
 
-  pub row-found : 0 < r .width → r .width ≤ length b → readRow r place b ≡ found (place + r .width) (r .command b)
+  pub row-found : 0 < widthOf (r .shape) → widthOf (r .shape) ≤ length b → readRow r place b ≡ found (place + widthOf (r .shape)) (commandIn r b)
   unfolding readRow
-  row-found s h = rw (ne-eqb (r .width) 0 (omega arith), le-ltb (length b) (r .width) h)
+  row-found s h = rw (ne-eqb (widthOf (r .shape)) 0 (omega arith), le-ltb (length b) (widthOf (r .shape)) h)

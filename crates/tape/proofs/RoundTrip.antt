@@ -19,16 +19,19 @@ use Rattle.tape.specs.declared.Writing.{Writing}
 use Rattle.tape.specs.declared.Writing.the-variants.{Written}
 use Rattle.tape.specs.declared.Writing.the-variants as writing
 use Rattle.refusal.specs.declared.Refusal.{Refusal}
+use Rattle.batch.specs.declared.BatchRecord.{BatchRecord}
 use Rattle.wire.specs.Bytes.{Bytes, overwritten}
 use Rattle.wire.specs.Record.{RecordFits}
-use Rattle.tape.specs.Table.{Row, rowOf, codeOf, bytesOf, width, plain}
+use Rattle.tape.specs.Shape.{widthOf}
+use Rattle.tape.specs.Table.{Row, rowOf, partsOf, shapeOf, commandIn, bytesOf, width, plain}
 use Rattle.tape.specs.Tape.{withNone, readRow, readAt, writeAt, afterWrite}
 use Rattle.tape.specs.RoundTrip.{found, OperandsFit, WrittenReadsBack, PlainReadsBack, ReadWritesBack, ReadIsPlain}
 use Rattle.tape.specs.RoundTrip.{ReadsBack, WritesBack}
 use Rattle.wire.proofs.Buffer.{length-overwritten, drop-overwritten, put-same}
 use Rattle.wire.proofs.Bytes.{bytes-drop}
 use Rattle.tape.proofs.Cases.{by-row, row-found}
-use Rattle.tape.proofs.Rows.{length-bytesOf, command-read, row-own, row-written}
+use Rattle.tape.proofs.Shapes.{record-once, code-read}
+use Rattle.tape.proofs.Rows.{some-bytes, code-byte, length-bytesOf, command-read, row-own, row-written}
 
 -- ---- what an answer tells of the tests on the way to it
 
@@ -51,10 +54,10 @@ next-of e = cc
 -- what stands at the place of a command that was read
 record Known (bytes : List ℕ) (place next : ℕ) (c : Command) : Type 0 where
   within : place < length bytes
-  some : 0 < rowOf (getD bytes place 0) .width
-  whole : rowOf (getD bytes place 0) .width ≤ length bytes - place
-  next-is : next ≡ place + rowOf (getD bytes place 0) .width
-  command-is : c ≡ rowOf (getD bytes place 0) .command (drop place bytes)
+  some : 0 < widthOf (rowOf (getD bytes place 0) .shape)
+  whole : widthOf (rowOf (getD bytes place 0) .shape) ≤ length bytes - place
+  next-is : next ≡ place + widthOf (rowOf (getD bytes place 0) .shape)
+  command-is : c ≡ commandIn (rowOf (getD bytes place 0)) (drop place bytes)
 
 known : (bytes : List ℕ) (place next : ℕ) (c : Command) → readAt bytes place ≡ found next c → Known bytes place next c
 unfolding readAt readRow
@@ -62,13 +65,13 @@ known bytes place next c e =
     let r = rowOf (getD bytes place 0) in
     let t1 = passed (ltb (length bytes) place) _ _ (refused≢read _) e in
     let t2 = passed (eqb place (length bytes)) End _ end≢read (t1 .1) in
-    let t3 = passed (eqb (r .width) 0) _ _ (refused≢read _) (t2 .1) in
-    let t4 = passed (ltb (length (drop place bytes)) (r .width)) _ _ (refused≢read _) (t3 .1) in
+    let t3 = passed (eqb (widthOf (r .shape)) 0) _ _ (refused≢read _) (t2 .1) in
+    let t4 = passed (ltb (length (drop place bytes)) (widthOf (r .shape))) _ _ (refused≢read _) (t3 .1) in
     let same = t4 .1 in
     record {
       within = omega (arith, ltb-false (length bytes) place (t1 .0), eqb-false place (length bytes) (t2 .0));
-      some = omega (arith, eqb-false (r .width) 0 (t3 .0));
-      whole = rw length-drop at (ltb-false (length (drop place bytes)) (r .width) (t4 .0));
+      some = omega (arith, eqb-false (widthOf (r .shape)) 0 (t3 .0));
+      whole = rw length-drop at (ltb-false (length (drop place bytes)) (widthOf (r .shape)) (t4 .0));
       next-is = next-of (ap (λ (x : Reading). x .answer) same);
       command-is = sym (ap (λ (x : Reading). x .command) same);
     }
@@ -86,7 +89,7 @@ unfolding writeAt
 read-writes-back bytes place next c b e =
     let k = known bytes place next c e in
     let t = drop place bytes in
-    let n = rowOf (getD bytes place 0) .width in
+    let n = widthOf (rowOf (getD bytes place 0) .shape) in
     let wide : width c ≡ n = ap width (k .command-is) ∙ row-own (getD bytes place 0) t (k .some) .1 in
     let code : getD t 0 0 ≡ getD bytes place 0 = getD-drop place bytes 0 0 ∙ rw add-zero in
     let whole : n ≤ length t = rw length-drop (k .whole) in
@@ -125,27 +128,38 @@ room-of bytes place next c e =
       next-is = written-next (place + width c) (t2 .1);
     }
 
+-- a plain command stays as it is
+plain-once : (c : Command) → plain (plain c) ≡ plain c
+unfolding plain
+plain-once c =
+    ap (λ (x : BatchRecord). record { action = c .action; «record» = x }) (record-once (shapeOf (c .action)) (c .«record»))
+
 pub written-reads-back : WrittenReadsBack
 unfolding bytesOf width
 written-reads-back bytes place next c f g e =
     let k = room-of bytes place next c e in
-    let r = rowOf (codeOf (c .action)) in
+    let code = partsOf (c .action) .code in
+    let r = rowOf code in
     let new = bytesOf c in
-    let long : length new ≡ r .width = length-bytesOf (c .action) (c .«record») g in
+    let long : length new ≡ widthOf (r .shape) = length-bytesOf c g in
     let buffer = overwritten bytes place new in
     let same : length buffer ≡ length bytes = length-overwritten bytes new place (omega (arith, k .room)) in
     let rest = drop (place + length new) bytes in
     let from : drop place buffer ≡ new ++ rest = drop-overwritten bytes new place (k .within) in
-    let code : getD buffer place 0 ≡ codeOf (c .action)
-    = sym (getD-drop place buffer 0 0 ∙ rw add-zero) ∙ ap (λ (l : List ℕ). getD l 0 0) from in
-    let some : 0 < r .width = omega arith in
-    by-row buffer place (omega (arith, k .room))
-    ∙ rw (code, from)
-    (row-found r place (new ++ rest) some (rw length-append (omega arith))
-    ∙ rw (← (k .next-is)) (ap (found next) (command-read (c .action) (c .«record») rest f g)))
+    let some = some-bytes (c .action) in
+    let begins : getD buffer place 0 ≡ code
+    = sym (getD-drop place buffer 0 0 ∙ rw add-zero)
+    ∙ ap (λ (l : List ℕ). getD l 0 0) from
+    ∙ code-read (partsOf (c .action)) (c .«record») rest (r .shape) some (code-byte (c .action)) in (
+      by-row buffer place (omega (arith, k .room))
+          ∙ rw (begins, from)
+          (row-found r place (new ++ rest) some (rw length-append (omega arith))
+          ∙ rw (← (k .next-is)) (ap (found next) (command-read c rest f g))),
+      plain-once c,
+    )
 
 pub plain-reads-back : PlainReadsBack
-plain-reads-back bytes place next c f g p e = written-reads-back bytes place next c f g e ∙ ap (found next) p
+plain-reads-back bytes place next c f g p e = written-reads-back bytes place next c f g e .0 ∙ ap (found next) p
 
 -- ---- the same of an answer that is at hand
 

@@ -1,140 +1,157 @@
--- Laws of the table of commands: which row a command byte has, and what a row's command is as bytes. Assumes nothing.
-use Prim.Native.Nat.{ℕ, _+_, _<_, _≤_}
+-- Laws of the table of commands: which row a command byte has, and that rows and actions belong together. The facts of a row and of an action
+-- are computed; the rest is by the laws of the shapes. Assumes nothing.
+use Prim.Native.Nat.{ℕ, _<_, _≤_}
 use mathlib.Core.Path.{_≡_, refl, sym, ap, _∙_}
 use mathlib.Core.Bool.{Bool, true, false, cond}
 use mathlib.Core.List.{List, [], _∷_, _++_}
 use mathlib.Core.Logic.{_≢_}
 use native.Mathlib.Nat.{lt-irrefl}
 use native.Mathlib.Omega.{arith}
-use lib.Dec.{eqb}
-use lib.ListN.{length, getD, take, drop, length-drop}
-use lib.Seq.{take-add, take-suc}
+use borrow.Author.Needs.{needs}
 use borrow.Author.Tests.{ne-eqb, eqb-true}
+use lib.Dec.{eqb}
+use lib.ListN.{length, getD, take, drop}
 use Rattle.batch.specs.declared.BatchRecord.{BatchRecord}
+use Rattle.wire.specs.Bytes.{numberAt, Bytes}
+use Rattle.wire.specs.Record.{recordIn, RecordFits}
 use Rattle.tape.specs.declared.Action.{Action}
 use Rattle.tape.specs.declared.Action.the-variants.{AddNode, AddChannel, Start, Receive, Send, Enter, Move}
-use Rattle.wire.specs.Bytes.{little, part, numberAt, Bytes}
-use Rattle.wire.specs.Record.{recordLength, recordBytes, recordIn, RecordFits}
-use Rattle.tape.specs.Table.{Row, noRow, rowOf, find, commands, plain, codeOf, operands, bytesOf, width}
+use Rattle.tape.specs.declared.Command.{Command}
+use Rattle.tape.specs.declared.Parts.{Parts}
+use Rattle.tape.specs.declared.Shape.{Shape}
+use Rattle.tape.specs.Shape.{widthOf, recordWith, bytesWith}
+use Rattle.tape.specs.Table.{Row, noRow, rowOf, find, commands, partsOf, commandIn, shapeOf, plain, bytesOf, width}
 use Rattle.tape.specs.RoundTrip.{OperandsFit}
-use Rattle.wire.proofs.Numbers.{number-little}
-use Rattle.wire.proofs.Bytes.{part-written, bytes-drop}
-use Rattle.wire.proofs.Record.{length-record, record-reads-back, record-writes-back}
+use Rattle.tape.proofs.Shapes.{hasFirst, hasSecond, record-once, record-written, length-with, first-read, second-read, record-read, bytes-written}
 
 -- a byte that is none of the command bytes, in the form in which a `match` tells it
-abbrev Other : ℕ → Type 0
-Other code =
-    ((((((Unit {0} × (code ≢ 0x10)) × (code ≢ 0x11)) × (code ≢ 0x12)) × (code ≢ 0x20)) × (code ≢ 0x21)) × (code ≢ 0x22))
-    × (code ≢ 0x23)
+abbrev OtherThan : ℕ → List Row → Type 0 → Type 0
+OtherThan code [] X = X
+OtherThan code (r ∷ rows) X = OtherThan code rows (X × (code ≢ r .code))
 
-pub unknown : (code : ℕ) → Other code → rowOf code ≡ noRow code
+before : (code : ℕ) (rows : List Row) (X : Type 0) → OtherThan code rows X → X
+before code [] X n = n
+before code (r ∷ rows) X n = before code rows (X × (code ≢ r .code)) n .0
+
+none-of : (code : ℕ) (rows : List Row) (X : Type 0) → OtherThan code rows X → find code rows ≡ noRow code
+unfolding find
+none-of code [] X n = refl
+none-of code (r ∷ rows) X n =
+    rw (ne-eqb code (r .code) (before code rows (X × (code ≢ r .code)) n .1)) (none-of code rows (X × (code ≢ r .code)) n)
+
+pub unknown : (code : ℕ) → OtherThan code commands (Unit {0}) → rowOf code ≡ noRow code
+unfolding rowOf
+unknown code n = none-of code commands (Unit {0}) n
+
+-- ---- a row and the actions that it makes
+
+-- the action's command byte is the row's; written, it has the operands that it was made of; and it is made of no others
+record Fair (r : Row) : Type 0 where
+  code-is : (a b : ℕ) → partsOf (r .action a b) .code ≡ r .code
+  written : (a b : ℕ) (x : BatchRecord)
+      → bytesWith (r .shape) (partsOf (r .action a b)) x ≡ bytesWith (r .shape) (record { code = r .code; first = a; second = b }) x
+  no-others : (a b c d : ℕ) → r .action (cond (hasFirst (r .shape)) a c) (cond (hasSecond (r .shape)) b d) ≡ r .action a b
+
+abbrev All : (Row → Type 0) → List Row → Type 0
+All P [] = Unit {0}
+All P (r ∷ rows) = P r × All P rows
+
+all-fair : All Fair commands
+unfolding commands bytesWith
+all-fair = search needs depth 24
+
+-- the row that was found for a command byte
+record Found (code : ℕ) (r : Row) : Type 0 where
+  fair : Fair r
+  code-of : r .code ≡ code
+
+find-fair : (code : ℕ) (rows : List Row) → All Fair rows → 0 < widthOf (find code rows .shape) → Found code (find code rows)
+unfolding find
+find-fair code [] all some = absurd (lt-irrefl 0 some)
+find-fair code (r ∷ rows) all some = by-code (eqb code (r .code)) refl (find-fair code rows (all .1)) some
+  where
+    by-code : (b : Bool) → eqb code (r .code) ≡ b
+        → (0 < widthOf (find code rows .shape) → Found code (find code rows))
+        → 0 < widthOf (cond b r (find code rows) .shape)
+        → Found code (cond b r (find code rows))
+    by-code true e rest h = record { fair = all .0; code-of = sym (eqb-true code (r .code) e) }
+    by-code false e rest h = rest h
+
+module _ (code : ℕ) (some : 0 < widthOf (rowOf code .shape)) where
+  row-found : Found code (rowOf code)
+  unfolding rowOf
+  row-found = find-fair code commands all-fair some
+
+  -- the shape of the action that a row makes is the row's
+  shape-is : (a b : ℕ) → shapeOf (rowOf code .action a b) ≡ rowOf code .shape
+  shape-is a b = ap (λ (n : ℕ). rowOf n .shape) (row-found .fair .code-is a b ∙ row-found .code-of)
+
+-- ---- an action and its row
+
+record Made (a : Action) : Type 0 where
+  is : rowOf (partsOf a .code) .action (partsOf a .first) (partsOf a .second) ≡ a
+  some : 0 < widthOf (shapeOf a)
+  byte : partsOf a .code < 256
+
+made : (a : Action) → Made a
 unfolding rowOf find commands
-unknown code n =
-    simp (
-      ne-eqb code 0x10 (n .0 .0 .0 .0 .0 .0 .1),
-      ne-eqb code 0x11 (n .0 .0 .0 .0 .0 .1),
-      ne-eqb code 0x12 (n .0 .0 .0 .0 .1),
-      ne-eqb code 0x20 (n .0 .0 .0 .1),
-      ne-eqb code 0x21 (n .0 .0 .1),
-      ne-eqb code 0x22 (n .0 .1),
-      ne-eqb code 0x23 (n .1),
-    )
+made (AddNode slots) = search needs
+made (AddChannel sender receiver) = search needs
+made Start = search needs
+made (Receive channel) = search needs
+made (Send channel) = search needs
+made (Enter node) = search needs
+made (Move node) = search needs
 
--- ---- a command as bytes, and its row
+pub some-bytes : (a : Action) → 0 < widthOf (shapeOf a)
+some-bytes a = made a .some
+
+pub code-byte : (a : Action) → partsOf a .code < 256
+code-byte a = made a .byte
 
 -- a command is as many bytes as its width
-pub length-bytesOf : (a : Action) (r : BatchRecord) → RecordFits r
-    → length (codeOf a ∷ operands a r) ≡ rowOf (codeOf a) .width
-unfolding little rowOf find commands operands
-length-bytesOf (AddNode slots) r h = refl
-length-bytesOf (AddChannel sender receiver) r h = refl
-length-bytesOf Start r h = refl
-length-bytesOf (Receive channel) r h = refl
-length-bytesOf (Send channel) r h = rw (length-record h)
-length-bytesOf (Enter node) r h = refl
-length-bytesOf (Move node) r h = refl
+pub length-bytesOf : (c : Command) → RecordFits (c .«record») → length (bytesOf c) ≡ width c
+unfolding bytesOf width
+length-bytesOf c h = length-with (partsOf (c .action)) (c .«record») (shapeOf (c .action)) h
 
 -- its row makes the command of its bytes
-pub command-read : (a : Action) (r : BatchRecord) (rest : List ℕ) → OperandsFit a → RecordFits r
-    → rowOf (codeOf a) .command (codeOf a ∷ operands a r ++ rest) ≡ plain (record { action = a; «record» = r })
-unfolding little rowOf find commands operands plain
-command-read (AddNode slots) r rest f g = rw (number-little 1 slots f)
-command-read (AddChannel sender receiver) r rest f g = rw (number-little 1 sender (f .0), number-little 1 receiver (f .1))
-command-read Start r rest f g = refl
-command-read (Receive channel) r rest f g = rw (number-little 1 channel f)
-command-read (Send channel) r rest f g = rw (number-little 1 channel f, record-reads-back r rest g)
-command-read (Enter node) r rest f g = rw (number-little 1 node f)
-command-read (Move node) r rest f g = rw (number-little 1 node f)
-
--- ---- a row, and its command as bytes
-
--- a law of the row that a byte has, from the law of each row, one argument after another
-module _ (P : Row → Type 0) (code : ℕ) where
-  abbrev FromEach : List Row → Type 0 → Type 0
-  FromEach [] X = X
-  FromEach (r ∷ rows) X = (code ≡ r .code → P r) → FromEach rows X
-
-  carry : (rows : List Row) (X Y : Type 0) → (X → Y) → FromEach rows X → FromEach rows Y
-  carry [] X Y f x = f x
-  carry (r ∷ rows) X Y f x = λ law. carry rows X Y f (x law)
-
-  pick : (b : Bool) (r s : Row) → (b ≡ true → P r) → P s → P (cond b r s)
-  pick true r s yes-case no-case = yes-case refl
-  pick false r s yes-case no-case = no-case
-
-  from-each : (rows : List Row) → FromEach rows (P (noRow code) → P (find code rows))
-  unfolding find
-  from-each [] = λ none. none
-  from-each (r ∷ rows) = λ law.
-      carry rows (P (noRow code) → P (find code rows)) (P (noRow code) → P (find code (r ∷ rows)))
-      (λ f none. pick (eqb code (r .code)) r (find code rows) (λ e. law (eqb-true code (r .code) e)) (f none))
-      (from-each rows)
+pub command-read : (c : Command) (rest : List ℕ) → OperandsFit (c .action) → RecordFits (c .«record»)
+    → commandIn (rowOf (partsOf (c .action) .code)) (bytesOf c ++ rest) ≡ plain c
+unfolding commandIn bytesOf plain
+command-read c rest f g =
+    let p = partsOf (c .action) in
+    let x = c .«record» in
+    let r = rowOf (p .code) in
+    let made-again : r .action (numberAt 1 1 (bytesWith (r .shape) p x ++ rest)) (numberAt 2 1 (bytesWith (r .shape) p x ++ rest)) ≡ c .action
+    = rw (first-read p x rest (r .shape) (f .0), second-read p x rest (r .shape) (f .1))
+    (row-found (p .code) (made (c .action) .some) .fair .no-others (p .first) (p .second) _ _ ∙ made (c .action) .is) in
+    rw (made-again, record-read p x rest (r .shape) g)
 
 -- a row's command has a record only where its action has one, and the row's width
-abbrev Own : List ℕ → Row → Type 0
-Own t r = 0 < r .width → (plain (r .command t) ≡ r .command t) × (width (r .command t) ≡ r .width)
+pub row-own : (code : ℕ) (t : List ℕ) → 0 < widthOf (rowOf code .shape)
+    → (plain (commandIn (rowOf code) t) ≡ commandIn (rowOf code) t) × (width (commandIn (rowOf code) t) ≡ widthOf (rowOf code .shape))
+unfolding commandIn plain width
+row-own code t some =
+    let same = shape-is code some (numberAt 1 1 t) (numberAt 2 1 t) in
+    let r = rowOf code in (
+      ap
+          (λ (x : BatchRecord). record { action = r .action (numberAt 1 1 t) (numberAt 2 1 t); «record» = x })
+          (ap (λ (s : Shape). recordWith s (recordWith (r .shape) (recordIn (drop 2 t)))) same ∙ record-once (r .shape) (recordIn (drop 2 t))),
+      ap widthOf same,
+    )
 
-pub row-own : (code : ℕ) (t : List ℕ) → Own t (rowOf code)
-unfolding plain width rowOf find commands
-row-own code t =
-    from-each (Own t) code commands
-    (λ k h. (refl, refl))
-    (λ k h. (refl, refl))
-    (λ k h. (refl, refl))
-    (λ k h. (refl, refl))
-    (λ k h. (refl, refl))
-    (λ k h. (refl, refl))
-    (λ k h. (refl, refl))
-    (λ h. absurd (lt-irrefl 0 h))
-
-module _ (t : List ℕ) (b : Bytes t) where
-  head : (code : ℕ) → getD t 0 0 ≡ code → 1 ≤ length t → code ∷ [] ≡ take 1 t
-  head code e h = ap (λ (x : ℕ). x ∷ []) (sym e) ∙ sym (take-suc t 0 0 h)
-
-  one-operand : (code : ℕ) → getD t 0 0 ≡ code → 2 ≤ length t → code ∷ little 1 (numberAt 1 1 t) ≡ take 2 t
-  one-operand code e h =
-      ap (λ (xs : List ℕ). xs ++ little 1 (numberAt 1 1 t)) (head code e (omega arith))
-      ∙ rw (part-written 1 1 t b h, ← (take-add 1 1 t))
-
-  operand-and : (code n : ℕ) (ys : List ℕ) → getD t 0 0 ≡ code → 2 ≤ length t → ys ≡ part 2 n t
-      → code ∷ (little 1 (numberAt 1 1 t) ++ ys) ≡ take (2 + n) t
-  operand-and code n ys e h f =
-      ap (λ (xs : List ℕ). xs ++ ys) (one-operand code e h) ∙ rw (f, ← (take-add 2 n t))
-
-  -- a row's command, written, is the bytes that it was made of
-  abbrev Bytewise : Row → Type 0
-  Bytewise r = 0 < r .width → r .width ≤ length t → bytesOf (r .command t) ≡ take (r .width) t
-
-  pub row-written : (code : ℕ) → getD t 0 0 ≡ code → Bytewise (rowOf code)
-  unfolding bytesOf operands rowOf find commands
-  row-written code e =
-      from-each Bytewise code commands
-      (λ k p h. one-operand 0x10 (e ∙ k) h)
-      (λ k p h. operand-and 0x11 1 (little 1 (numberAt 2 1 t)) (e ∙ k) (omega arith) (part-written 2 1 t b h))
-      (λ k p h. head 0x12 (e ∙ k) h)
-      (λ k p h. one-operand 0x20 (e ∙ k) h)
-      (λ k p h. operand-and 0x21 recordLength (recordBytes (recordIn (drop 2 t))) (e ∙ k) (omega arith)
-      (record-writes-back (drop 2 t) (bytes-drop 2 t b) (rw length-drop (omega arith))))
-      (λ k p h. one-operand 0x22 (e ∙ k) h)
-      (λ k p h. one-operand 0x23 (e ∙ k) h)
-      (λ p. absurd (lt-irrefl 0 p))
+-- a row's command, written, is the bytes that it was made of
+pub row-written : (t : List ℕ) → Bytes t → (code : ℕ) → getD t 0 0 ≡ code → 0 < widthOf (rowOf code .shape)
+    → widthOf (rowOf code .shape) ≤ length t → bytesOf (commandIn (rowOf code) t) ≡ take (widthOf (rowOf code .shape)) t
+unfolding commandIn bytesOf
+row-written t b code e some h =
+    let r = rowOf code in
+    let k = row-found code some in
+    let action = r .action (numberAt 1 1 t) (numberAt 2 1 t) in
+    ap (λ (s : Shape). bytesWith s (partsOf action) (recordWith (r .shape) (recordIn (drop 2 t)))) (shape-is code some _ _)
+    ∙ record-written (r .shape) (partsOf action) (recordIn (drop 2 t))
+    ∙ k .fair .written (numberAt 1 1 t) (numberAt 2 1 t) (recordIn (drop 2 t))
+    ∙ ap
+    (λ (n : ℕ). bytesWith (r .shape) (record { code = n; first = numberAt 1 1 t; second = numberAt 2 1 t }) (recordIn (drop 2 t)))
+    (k .code-of ∙ sym e)
+    ∙ bytes-written t b (r .shape) h

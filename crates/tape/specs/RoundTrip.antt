@@ -6,7 +6,6 @@ use mathlib.Core.List.{List}
 use Rattle.wire.specs.Bytes.{Bytes, overwritten}
 use Rattle.wire.specs.Record.{RecordFits}
 use Rattle.tape.specs.declared.Action.{Action}
-use Rattle.tape.specs.declared.Action.the-variants.{AddNode, AddChannel, Start, Receive, Send, Enter, Move}
 use Rattle.tape.specs.declared.Command.{Command}
 use Rattle.tape.specs.declared.ReadAnswer.{ReadAnswer}
 use Rattle.tape.specs.declared.ReadAnswer.the-variants.{Read, End}
@@ -15,28 +14,26 @@ use Rattle.tape.specs.declared.Reading.{Reading}
 use Rattle.tape.specs.declared.Writing.{Writing}
 use Rattle.tape.specs.declared.Writing.the-variants.{Written}
 use Rattle.tape.specs.declared.Writing.the-variants as writing
-use Rattle.tape.specs.Table.{bytesOf, width, plain}
+use Rattle.tape.specs.Table.{partsOf, bytesOf, width, plain, SameCommand}
 use Rattle.tape.specs.Tape.{readAt, writeAt}
 
 -- the values that the operands of a command can hold, by their types
 abbrev pub OperandsFit : Action → Type 0
-OperandsFit (AddNode slots) = slots < 256
-OperandsFit (AddChannel sender receiver) = (sender < 256) × (receiver < 256)
-OperandsFit Start = Unit {0}
-OperandsFit (Receive channel) = channel < 256
-OperandsFit (Send channel) = channel < 256
-OperandsFit (Enter node) = node < 256
-OperandsFit (Move node) = node < 256
+OperandsFit a = (partsOf a .first < 256) × (partsOf a .second < 256)
 
 -- reading finds a command, and the place after it
 abbrev pub found : ℕ → Command → Reading
 found next c = record { answer = Read next; command = c }
 
--- what was written reads back: the command, without a record where its action has none, and the same next place
+-- what reading finds where a command was written: the same command, with the blank record where its action has none, and the next place
+abbrev pub FoundAgain : List ℕ → ℕ → ℕ → Command → Type 0
+FoundAgain bytes place next c = (readAt bytes place ≡ found next (plain c)) × SameCommand (plain c) c
+
+-- what was written reads back
 abbrev pub WrittenReadsBack : Type 0
 WrittenReadsBack =
     (bytes : List ℕ) (place next : ℕ) (c : Command) → OperandsFit (c .action) → RecordFits (c .«record»)
-    → writeAt bytes place c ≡ Written next → readAt (overwritten bytes place (bytesOf c)) place ≡ found next (plain c)
+    → writeAt bytes place c ≡ Written next → FoundAgain (overwritten bytes place (bytesOf c)) place next c
 
 -- so a command without a needless record is read back itself
 abbrev pub PlainReadsBack : Type 0
@@ -58,7 +55,7 @@ ReadIsPlain =
 
 -- the same as a promise to a caller: every value of a command's type fits, and so does every byte of a slice
 abbrev pub ReadsBack : Writing → List ℕ → ℕ → Command → Type 0
-ReadsBack (Written next) bytes place c = readAt bytes place ≡ found next (plain c)
+ReadsBack (Written next) bytes place c = FoundAgain bytes place next c
 ReadsBack (writing.Refused r) bytes place c = Unit {0}
 
 abbrev pub WritesBack : ReadAnswer → List ℕ → ℕ → Command → Type 0

@@ -1,8 +1,12 @@
--- The commands of the tape: document 01's table "Command tape", and what a command is as bytes. To read, a command byte has
--- a row; to write, an action has a command byte and operands. Assumes nothing.
+-- The commands of the tape: document 01's table "Command tape". A command is a row: its command byte, its shape, and the action that its
+-- operands make. The inverse, the command byte and the operands of an action, is given once beside it. Assumes nothing.
+--
+-- What a new command of a known shape costs: here its row and its line of `partsOf`; in the code the variant of `Action` and a line each of
+-- `row_of` and `parts_of`; in proofs/, where all is computed, a line each in `row_of`, `parts_of` and `made` (Rows.antt).
 use Prim.Native.Nat.{ℕ}
-use mathlib.Core.Bool.{Bool, true, false, cond}
-use mathlib.Core.List.{List, [], _∷_, _++_}
+use mathlib.Core.Path.{_≡_}
+use mathlib.Core.Bool.{cond}
+use mathlib.Core.List.{List, [], _∷_}
 use lib.Dec.{eqb}
 use lib.ListN.{drop}
 use Rattle.batch.specs.declared.BatchRecord.{BatchRecord}
@@ -10,38 +14,51 @@ use Rattle.batch.specs.Blank.{noRecord}
 use Rattle.tape.specs.declared.Action.{Action}
 use Rattle.tape.specs.declared.Action.the-variants.{AddNode, AddChannel, Start, Receive, Send, Enter, Move}
 use Rattle.tape.specs.declared.Command.{Command}
-use Rattle.wire.specs.Bytes.{little, numberAt}
-use Rattle.wire.specs.Record.{recordBytes, recordIn}
+use Rattle.tape.specs.declared.Parts.{Parts}
+use Rattle.tape.specs.declared.Row as found
+use Rattle.tape.specs.declared.Shape.{Shape}
+use Rattle.tape.specs.declared.Shape.the-variants.{Unknown, Bare, Byte, TwoBytes, ByteAndRecord}
+use Rattle.wire.specs.Bytes.{numberAt}
+use Rattle.wire.specs.Record.{recordIn}
+use Rattle.tape.specs.Shape.{widthOf, recordWith, bytesWith}
 
--- the command of an action that has no record
-abbrev pub bareOf : Action → Command
-bareOf a = record { action = a; «record» = noRecord }
-
--- a command's line in the table: its command byte, its width in bytes, and the command that bytes which begin with it stand for
+-- a row of the table: the command byte, the shape, and the action that the operands of one byte make
 pub record Row : Type 0 where
   pub code : ℕ
-  pub width : ℕ
-  pub command : List ℕ → Command
+  pub shape : Shape
+  pub action : ℕ → ℕ → Action
 
-abbrev row : ℕ → ℕ → (List ℕ → Command) → Row
-row code width command = record { code = code; width = width; command = command }
+abbrev row : ℕ → Shape → (ℕ → ℕ → Action) → Row
+row code shape action = record { code = code; shape = shape; action = action }
 
 unfoldable pub commands : List Row
 commands =
-    row 0x10 2 (λ b. bareOf (AddNode (numberAt 1 1 b)))
-    ∷ row 0x11 3 (λ b. bareOf (AddChannel (numberAt 1 1 b) (numberAt 2 1 b)))
-    ∷ row 0x12 1 (λ b. bareOf Start)
-    ∷ row 0x20 2 (λ b. bareOf (Receive (numberAt 1 1 b)))
-    ∷ row 0x21 42 (λ b. record { action = Send (numberAt 1 1 b); «record» = recordIn (drop 2 b) })
-    ∷ row 0x22 2 (λ b. bareOf (Enter (numberAt 1 1 b)))
-    ∷ row 0x23 2 (λ b. bareOf (Move (numberAt 1 1 b)))
+    row 0x10 Byte (λ slots b. AddNode slots)
+    ∷ row 0x11 TwoBytes (λ sender receiver. AddChannel sender receiver)
+    ∷ row 0x12 Bare (λ a b. Start)
+    ∷ row 0x20 Byte (λ channel b. Receive channel)
+    ∷ row 0x21 ByteAndRecord (λ channel b. Send channel)
+    ∷ row 0x22 Byte (λ node b. Enter node)
+    ∷ row 0x23 Byte (λ node b. Move node)
     ∷ []
 
--- the row of a byte that no command has: its width is 0
-abbrev pub noRow : ℕ → Row
-noRow code = row code 0 (λ b. bareOf Start)
+-- the command byte and the operands of one byte of an action, 0 where it has none
+abbrev parts : ℕ → ℕ → ℕ → Parts
+parts code first second = record { code = code; first = first; second = second }
 
--- the row of a command byte
+abbrev pub partsOf : Action → Parts
+partsOf (AddNode slots) = parts 0x10 slots 0
+partsOf (AddChannel sender receiver) = parts 0x11 sender receiver
+partsOf Start = parts 0x12 0 0
+partsOf (Receive channel) = parts 0x20 channel 0
+partsOf (Send channel) = parts 0x21 channel 0
+partsOf (Enter node) = parts 0x22 node 0
+partsOf (Move node) = parts 0x23 node 0
+
+-- the row of a byte that no command has, and the row of a command byte
+abbrev pub noRow : ℕ → Row
+noRow code = row code Unknown (λ a b. Start)
+
 unfoldable pub find : ℕ → List Row → Row
 find code [] = noRow code
 find code (r ∷ rows) = cond (eqb code (r .code)) r (find code rows)
@@ -49,44 +66,36 @@ find code (r ∷ rows) = cond (eqb code (r .code)) r (find code rows)
 unfoldable pub rowOf : ℕ → Row
 rowOf code = find code commands
 
--- whether the action has a record
-abbrev pub carries : Action → Bool
-carries (Send channel) = true
-carries (AddNode slots) = false
-carries (AddChannel sender receiver) = false
-carries Start = false
-carries (Receive channel) = false
-carries (Enter node) = false
-carries (Move node) = false
+-- a row with these operands, as the code has it
+abbrev pub rowWith : Row → ℕ → ℕ → found.Row
+rowWith r first second = record { shape = r .shape; action = r .action first second }
+
+-- the command that bytes which begin with the row's command byte stand for
+unfoldable pub commandIn : Row → List ℕ → Command
+commandIn r b = record {
+  action = r .action (numberAt 1 1 b) (numberAt 2 1 b);
+  «record» = recordWith (r .shape) (recordIn (drop 2 b));
+}
+
+-- the shape of a command, how many bytes it takes, and those bytes
+abbrev pub shapeOf : Action → Shape
+shapeOf a = rowOf (partsOf a .code) .shape
+
+unfoldable pub width : Command → ℕ
+width c = widthOf (shapeOf (c .action))
+
+unfoldable pub bytesOf : Command → List ℕ
+bytesOf c = bytesWith (shapeOf (c .action)) (partsOf (c .action)) (c .«record»)
+
+-- the command of an action that has no record
+abbrev pub bareOf : Action → Command
+bareOf a = record { action = a; «record» = noRecord }
 
 -- the command with the blank record where its action has none. A command that was read is plain already
 unfoldable pub plain : Command → Command
-plain c = cond (carries (c .action)) c (bareOf (c .action))
+plain c = record { action = c .action; «record» = recordWith (shapeOf (c .action)) (c .«record») }
 
--- the command byte of an action
-abbrev pub codeOf : Action → ℕ
-codeOf (AddNode slots) = 0x10
-codeOf (AddChannel sender receiver) = 0x11
-codeOf Start = 0x12
-codeOf (Receive channel) = 0x20
-codeOf (Send channel) = 0x21
-codeOf (Enter node) = 0x22
-codeOf (Move node) = 0x23
-
--- the bytes of a command's operands
-unfoldable pub operands : Action → BatchRecord → List ℕ
-operands (AddNode slots) r = little 1 slots
-operands (AddChannel sender receiver) r = little 1 sender ++ little 1 receiver
-operands Start r = []
-operands (Receive channel) r = little 1 channel
-operands (Send channel) r = little 1 channel ++ recordBytes r
-operands (Enter node) r = little 1 node
-operands (Move node) r = little 1 node
-
--- a command as bytes: its command byte, then its operands
-unfoldable pub bytesOf : Command → List ℕ
-bytesOf c = codeOf (c .action) ∷ operands (c .action) (c .«record»)
-
--- how many bytes a command takes
-unfoldable pub width : Command → ℕ
-width c = rowOf (codeOf (c .action)) .width
+-- The same command: the same action, and the same record where the action has one. A record beside any other action says nothing and is
+-- not written.
+abbrev pub SameCommand : Command → Command → Type 0
+SameCommand c d = plain c ≡ plain d

@@ -17,7 +17,18 @@ use Rattle.tape.specs.declared.Reading.{Reading}
 use Rattle.tape.specs.declared.Writing.{Writing}
 use Rattle.tape.specs.declared.Writing.the-variants as writing
 use Rattle.wire.specs.Bytes.{overwritten}
-use Rattle.tape.specs.Table.{Row, rowOf, width, bytesOf, bareOf}
+use Rattle.tape.specs.Shape.{widthOf}
+use Rattle.tape.specs.Table.{Row, rowOf, commandIn, width, bytesOf, bareOf}
+
+-- document 01's number for each case of an answer: that of the refusal, or 0
+abbrev pub readNumber : ReadAnswer → ℕ
+readNumber (Read next) = 0
+readNumber End = 0
+readNumber (answer.Refused r) = numberOf r
+
+abbrev pub writeNumber : Writing → ℕ
+writeNumber (writing.Written next) = 0
+writeNumber (writing.Refused r) = numberOf r
 
 -- an answer with no command: the blank one stands beside it
 abbrev pub withNone : ReadAnswer → Reading
@@ -26,9 +37,9 @@ withNone a = record { answer = a; command = bareOf Start }
 -- reading bytes that begin with the command byte of a row, at a place: 22, 23, or the command and the next place
 unfoldable pub readRow : Row → ℕ → List ℕ → Reading
 readRow r place b =
-    cond (eqb (r .width) 0) (withNone (answer.Refused UnknownCommand))
-    (cond (ltb (length b) (r .width)) (withNone (answer.Refused CommandCut))
-    (record { answer = Read (place + r .width); command = r .command b }))
+    cond (eqb (widthOf (r .shape)) 0) (withNone (answer.Refused UnknownCommand))
+    (cond (ltb (length b) (widthOf (r .shape))) (withNone (answer.Refused CommandCut))
+    (record { answer = Read (place + widthOf (r .shape)); command = commandIn r b }))
 
 -- reading at a place: 24, the end, or what the row of the command byte says
 unfoldable pub readAt : List ℕ → ℕ → Reading
@@ -48,13 +59,3 @@ writeAt bytes place c =
 unfoldable pub afterWrite : Writing → List ℕ → ℕ → Command → List ℕ
 afterWrite (writing.Written next) bytes place c = overwritten bytes place (bytesOf c)
 afterWrite (writing.Refused r) bytes place c = bytes
-
--- document 01's number for each case of an answer: that of the refusal, or 0
-abbrev pub readNumber : ReadAnswer → ℕ
-readNumber (Read next) = 0
-readNumber End = 0
-readNumber (answer.Refused r) = numberOf r
-
-abbrev pub writeNumber : Writing → ℕ
-writeNumber (writing.Written next) = 0
-writeNumber (writing.Refused r) = numberOf r

@@ -6,10 +6,12 @@ use refusal::Refusal;
 use wire::fields;
 ghost use mathlib.Core.Path.{_≡_};
 ghost use Prim.Native.Nat.{_≤_};
-ghost use lib.ListN.{length};
-ghost use Rattle.wire.specs.Bytes.{overwritten};
-ghost use Rattle.tape.specs.Table.{rowOf, codeOf, bytesOf, width, bareOf};
-ghost use Rattle.tape.specs.Tape.{readAt, writeAt, afterWrite, withNone};
+ghost use lib.ListN.{length, drop};
+ghost use Rattle.wire.specs.Bytes.{numberAt, overwritten};
+ghost use Rattle.wire.specs.Record.{recordIn};
+ghost use Rattle.tape.specs.Shape.{widthOf, carries, recordWith, bytesWith};
+ghost use Rattle.tape.specs.Table.{rowOf, rowWith, partsOf};
+ghost use Rattle.tape.specs.Tape.{readAt, writeAt, afterWrite, withNone, readNumber, writeNumber};
 ghost use Rattle.tape.specs.RoundTrip.{ReadsBack, WritesBack};
 
 // What a command does, with its operands of one byte: slots, sender and receiver, channel or node.
@@ -49,63 +51,130 @@ pub enum Writing {
     Refused(Refusal),
 }
 
-// The command byte of an action.
-fn code_of(action: Action) -> u8
-    ensures { λ r. ⌜ r ≡ codeOf action ⌝ }
+// The shapes of a command: what follows its command byte.
+enum Shape {
+    // No command has this command byte.
+    Unknown,
+    Bare,
+    Byte,
+    TwoBytes,
+    ByteAndRecord,
+}
+
+// A command byte's row of the table: the shape of its command, and the action that its operands make.
+struct Row {
+    shape: Shape,
+    action: Action,
+}
+
+// The command byte of an action, and its operands of one byte, 0 where it has none.
+struct Parts {
+    code: u8,
+    first: u8,
+    second: u8,
+}
+
+// The table, to read: a line for each command.
+fn row_of(code: u8, first: u8, second: u8) -> Row
+    ensures { λ r. ⌜ r ≡ rowWith (rowOf code) first second ⌝ }
+{
+    match code {
+        0x10 => with_shape(Shape::Byte, Action::AddNode(first)),
+        0x11 => with_shape(Shape::TwoBytes, Action::AddChannel(first, second)),
+        0x12 => with_shape(Shape::Bare, Action::Start),
+        0x20 => with_shape(Shape::Byte, Action::Receive(first)),
+        0x21 => with_shape(Shape::ByteAndRecord, Action::Send(first)),
+        0x22 => with_shape(Shape::Byte, Action::Enter(first)),
+        0x23 => with_shape(Shape::Byte, Action::Move(first)),
+        _ => with_shape(Shape::Unknown, Action::Start),
+    }
+}
+
+fn with_shape(shape: Shape, action: Action) -> Row
+    ensures { λ r. ⌜ r ≡ record { shape = shape; action = action } ⌝ }
+{
+    Row { shape, action }
+}
+
+// The table, to write: a line for each command.
+fn parts_of(action: Action) -> Parts
+    ensures { λ r. ⌜ r ≡ partsOf action ⌝ }
 {
     match action {
-        Action::AddNode(_) => 0x10,
-        Action::AddChannel(_, _) => 0x11,
-        Action::Start => 0x12,
-        Action::Receive(_) => 0x20,
-        Action::Send(_) => 0x21,
-        Action::Enter(_) => 0x22,
-        Action::Move(_) => 0x23,
+        Action::AddNode(slots) => with_operands(0x10, slots, 0),
+        Action::AddChannel(sender, receiver) => with_operands(0x11, sender, receiver),
+        Action::Start => with_operands(0x12, 0, 0),
+        Action::Receive(channel) => with_operands(0x20, channel, 0),
+        Action::Send(channel) => with_operands(0x21, channel, 0),
+        Action::Enter(node) => with_operands(0x22, node, 0),
+        Action::Move(node) => with_operands(0x23, node, 0),
     }
 }
 
-// The width of the command with this command byte, 0 where there is none.
-fn width_of(code: u8) -> usize
-    ensures { λ r. ⌜ r ≡ rowOf code .width ⌝ }
+fn with_operands(code: u8, first: u8, second: u8) -> Parts
+    ensures { λ r. ⌜ r ≡ record { code = code; first = first; second = second } ⌝ }
 {
-    match code {
-        0x10 => 2,
-        0x11 => 3,
-        0x12 => 1,
-        0x20 => 2,
-        0x21 => 42,
-        0x22 => 2,
-        0x23 => 2,
-        _ => 0,
+    Parts {
+        code,
+        first,
+        second,
     }
 }
 
-// The command of an action that has no record.
-fn bare(action: Action) -> Command
-    ensures { λ r. ⌜ r ≡ bareOf action ⌝ }
+// How many bytes a command of a shape takes, its command byte among them.
+fn width_of(shape: Shape) -> usize
+    ensures { λ r. ⌜ r ≡ widthOf shape ⌝ }
 {
-    let record = BatchRecord::none();
-    Command { action, record }
+    match shape {
+        Shape::Unknown => 0,
+        Shape::Bare => 1,
+        Shape::Byte => 2,
+        Shape::TwoBytes => 3,
+        Shape::ByteAndRecord => 42,
+    }
 }
 
-// The command whose bytes begin here, its command byte first, and are all there.
-fn command_in(code: u8, bytes: &[u8]) -> Command
-    requires { ⌜ rowOf code .width ≤ length (now bytes) ⌝ }
-    ensures { λ r. ⌜ r ≡ rowOf code .command (now (bytes .entry)) ⌝ }
+// Whether a command of a shape has a record.
+fn carries_record(shape: Shape) -> bool
+    ensures { λ r. ⌜ r ≡ carries shape ⌝ }
 {
-    match code {
-        0x10 => bare(Action::AddNode(fields::u8_at(bytes, 1))),
-        0x11 => bare(Action::AddChannel(fields::u8_at(bytes, 1), fields::u8_at(bytes, 2))),
-        0x12 => bare(Action::Start),
-        0x20 => bare(Action::Receive(fields::u8_at(bytes, 1))),
-        0x21 => {
-            let action = Action::Send(fields::u8_at(bytes, 1));
-            let record = wire::record_in(&bytes[2..]);
-            Command { action, record }
-        }
-        0x22 => bare(Action::Enter(fields::u8_at(bytes, 1))),
-        0x23 => bare(Action::Move(fields::u8_at(bytes, 1))),
-        _ => bare(Action::Start),
+    match shape {
+        Shape::Unknown => false,
+        Shape::Bare => false,
+        Shape::Byte => false,
+        Shape::TwoBytes => false,
+        Shape::ByteAndRecord => true,
+    }
+}
+
+// The operand of one byte at a place after the command byte, 0 where the bytes have ended.
+fn operand_at(bytes: &[u8], at: usize) -> u8
+    ensures { λ r. ⌜ r ≡ numberAt at 1 (now (bytes .entry)) ⌝ }
+{
+    if bytes.len() <= at {
+        return 0;
+    }
+    bytes[at]
+}
+
+// The row of the command byte that the bytes begin with, with the operands that follow it.
+fn row_in(code: u8, bytes: &[u8]) -> Row
+    ensures { λ r. ⌜ r ≡ rowWith (rowOf code) (numberAt 1 1 (now (bytes .entry))) (numberAt 2 1 (now (bytes .entry))) ⌝ }
+{
+    let first = operand_at(bytes, 1);
+    let second = operand_at(bytes, 2);
+    row_of(code, first, second)
+}
+
+// The record of a command whose bytes begin here and are all there; the blank one where its shape has none.
+fn record_in(shape: Shape, bytes: &[u8]) -> BatchRecord
+    requires { ⌜ widthOf shape ≤ length (now bytes) ⌝ }
+    ensures { λ r. ⌜ r ≡ recordWith shape (recordIn (drop 2 (now (bytes .entry)))) ⌝ }
+{
+    if carries_record(shape) {
+        wire::record_in(&bytes[2..])
+    } else {
+        BatchRecord::none()
     }
 }
 
@@ -113,7 +182,11 @@ fn command_in(code: u8, bytes: &[u8]) -> Command
 fn without(answer: ReadAnswer) -> Reading
     ensures { λ r. ⌜ r ≡ withNone answer ⌝ }
 {
-    let command = bare(Action::Start);
+    let record = BatchRecord::none();
+    let command = Command {
+        action: Action::Start,
+        record,
+    };
     Reading { answer, command }
 }
 
@@ -121,6 +194,7 @@ fn without(answer: ReadAnswer) -> Reading
 pub fn read(bytes: &[u8], place: usize) -> Reading
     ensures answer { λ r. ⌜ r ≡ readAt (now (bytes .entry)) place ⌝ }
     ensures writes_back { λ r. ⌜ WritesBack (r .answer) (now (bytes .entry)) place (r .command) ⌝ }
+    ensures number { λ r. ⌜ readNumber (r .answer) ≡ readNumber (readAt (now (bytes .entry)) place .answer) ⌝ }
 {
     if bytes.len() < place {
         return without(ReadAnswer::Refused(Refusal::PlaceBeyondEnd));
@@ -128,15 +202,18 @@ pub fn read(bytes: &[u8], place: usize) -> Reading
     if place == bytes.len() {
         return without(ReadAnswer::End);
     }
-    let code = bytes[place];
-    let width = width_of(code);
+    let row = row_in(bytes[place], &bytes[place..]);
+    let shape = row.shape;
+    let width = width_of(shape);
     if width == 0 {
         return without(ReadAnswer::Refused(Refusal::UnknownCommand));
     }
     if bytes.len() - place < width {
         return without(ReadAnswer::Refused(Refusal::CommandCut));
     }
-    let command = command_in(code, &bytes[place..]);
+    let action = row.action;
+    let record = record_in(shape, &bytes[place..]);
+    let command = Command { action, record };
     let next = place + width;
     Reading {
         answer: ReadAnswer::Read { next },
@@ -145,27 +222,23 @@ pub fn read(bytes: &[u8], place: usize) -> Reading
 }
 
 // Puts a command's bytes at the front of a buffer with room for them.
-fn put_command(bytes: &mut [u8], command: Command)
-    requires { ⌜ width command ≤ length (now bytes) ⌝ }
-    ensures { λ _. ⌜ now (bytes .exit) ≡ overwritten (now (bytes .entry)) 0 (bytesOf command) ⌝ }
+fn put_command(bytes: &mut [u8], shape: Shape, parts: Parts, record: BatchRecord)
+    requires { ⌜ widthOf shape ≤ length (now bytes) ⌝ }
+    ensures { λ _. ⌜ now (bytes .exit)
+        ≡ overwritten (now (bytes .entry)) 0 (bytesWith shape parts «record») ⌝ }
 {
-    let action = command.action;
-    let code = code_of(action);
-    match action {
-        Action::AddNode(slots) => fields::put_pair(bytes, code, slots),
-        Action::AddChannel(sender, receiver) => {
-            fields::put_pair(bytes, code, sender);
-            fields::put_u8(&mut bytes[2..], receiver);
+    match shape {
+        Shape::Unknown => {}
+        Shape::Bare => fields::put_u8(bytes, parts.code),
+        Shape::Byte => fields::put_pair(bytes, parts.code, parts.first),
+        Shape::TwoBytes => {
+            fields::put_pair(bytes, parts.code, parts.first);
+            fields::put_u8(&mut bytes[2..], parts.second);
         }
-        Action::Start => fields::put_u8(bytes, code),
-        Action::Receive(channel) => fields::put_pair(bytes, code, channel),
-        Action::Send(channel) => {
-            let record = command.record;
-            fields::put_pair(bytes, code, channel);
+        Shape::ByteAndRecord => {
+            fields::put_pair(bytes, parts.code, parts.first);
             wire::put_record(&mut bytes[2..], record);
         }
-        Action::Enter(node) => fields::put_pair(bytes, code, node),
-        Action::Move(node) => fields::put_pair(bytes, code, node),
     }
 }
 
@@ -174,16 +247,21 @@ pub fn write(bytes: &mut [u8], place: usize, command: Command) -> Writing
     ensures answer { λ r. ⌜ r ≡ writeAt (now (bytes .entry)) place command ⌝ }
     ensures buffer { λ r. ⌜ now (bytes .exit) ≡ afterWrite r (now (bytes .entry)) place command ⌝ }
     ensures reads_back { λ r. ⌜ ReadsBack r (now (bytes .exit)) place command ⌝ }
+    ensures number { λ r. ⌜ writeNumber r ≡ writeNumber (writeAt (now (bytes .entry)) place command) ⌝ }
 {
     if bytes.len() < place {
         return Writing::Refused(Refusal::PlaceBeyondEnd);
     }
     let action = command.action;
-    let width = width_of(code_of(action));
+    let parts = parts_of(action);
+    let row = row_of(parts.code, parts.first, parts.second);
+    let shape = row.shape;
+    let width = width_of(shape);
     if bytes.len() - place < width {
         return Writing::Refused(Refusal::NoRoomToWrite);
     }
-    put_command(&mut bytes[place..], command);
+    let record = command.record;
+    put_command(&mut bytes[place..], shape, parts, record);
     let next = place + width;
     Writing::Written { next }
 }

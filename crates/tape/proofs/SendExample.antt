@@ -2,10 +2,11 @@
 use mathlib.Core.Path.{refl}
 use Rattle.wire.specs.Bytes.{little, number, twos, signed}
 use Rattle.wire.specs.Record.{recordBytes, recordIn}
-use Rattle.tape.specs.Table.{commands, find, rowOf, operands, bytesOf}
+use Rattle.tape.specs.Shape.{bytesWith}
+use Rattle.tape.specs.Table.{commands, find, rowOf, commandIn, bytesOf}
 use Rattle.tape.specs.Tape.{readRow, readAt}
-use Rattle.tape.specs.Listing.{SentAsListed}
+use Rattle.tape.specs.SendExample.{SentAsListed}
 
 pub sent-as-listed : SentAsListed
-unfolding little number twos signed recordBytes recordIn commands find rowOf operands bytesOf readRow readAt
+unfolding little number twos signed recordBytes recordIn bytesWith commands find rowOf commandIn bytesOf readRow readAt
 sent-as-listed = (refl, refl)
