@@ -8,21 +8,21 @@ use native.Mathlib.Omega.{arith}
 use lib.Count.{ones, onesIn, ones-cat}
 use lib.Dec.{eqb}
 use lib.Pow.{pow-mono}
-use borrow.Author.Tests.{lt-ltb, le-ltb}
-use Rattle.refusal.specs.declared.Refusal.the-variants.{NoSuchNode}
+use borrow.Author.Tests.{lt-ltb}
 use Rattle.network.specs.declared.Head.{Head}
 use Rattle.network.specs.declared.Ring.{Ring}
 use Rattle.network.specs.Counting.{one, sum}
 use Rattle.network.specs.Network.{Network, Phase, resting, asking, ready, answering, nodeCount, channelCount, channel}
 use Rattle.network.specs.Sound.{isResting}
-use Rattle.network.specs.Calls.{waitingAre, refused, accepted, waitingOf}
+use Rattle.network.specs.Calls.{waitingAre, accepted, waitingOf}
 use Rattle.network.specs.Calls
 use Rattle.network.specs.Runs
-use Rattle.network.specs.Layout.{channelRoom, phaseCode, view, soundRing, callRing}
+use Rattle.network.specs.Layout.{channelRoom, phaseCode, view, callRing}
 use Rattle.network.proofs.Cases.{by-test}
 use Rattle.network.proofs.Counting.{sum-same, one-most}
 use Rattle.network.proofs.Memory.{SoundRing, sound-ring}
 use Rattle.change.specs.Flat.{receiverAt, phaseAt}
+use Rattle.change.specs.Known.{AskedAt}
 use Rattle.change.proofs.Openings.{sound-called}
 use Rattle.questions.specs.Asked.{waits, waitsAt, bits, waitingIn}
 
@@ -54,11 +54,11 @@ set-doubled m set b l s = rw (pow-suc 2 m) (omega arith)
 pub set-fits : (m set b : ℕ) → m < channelRoom → set < 2 ^ m → b ≤ 1 → 2 * set + b < 2 ^ channelRoom
 set-fits m set b few l s = lt-of-lt-of-le (set-doubled m set b l s) (pow-mono few)
 
--- the call on a sound ring
+-- the call at a node of a sound ring
 
-module _ (ring : Ring) (ok : soundRing ring ≡ true) (p : ℕ) where
+module _ {ring : Ring} {p : ℕ} (h : AskedAt ring p) where
   known : SoundRing ring
-  known = sound-ring ring ok
+  known = sound-ring ring (h .ok)
 
   waits-here : (k : ℕ) → k < channelCount (view ring) → one (waits p (channel (view ring) k)) ≡ waitsAt (ring .head) p k
   waits-here k l =
@@ -72,18 +72,11 @@ module _ (ring : Ring) (ok : soundRing ring ≡ true) (p : ℕ) where
       (λ k. 2 ^ k * waitsAt (ring .head) p k) (λ k l. rw (waits-here k l))
       ∙ ap (bits (waitsAt (ring .head) p)) (sym (known .holds .channel-count))
 
-  pub waiting-no-node : ring .head .«node_count» ≤ p → callRing (Runs.waitingSet p) ring ≡ refused NoSuchNode
+  pub waiting-answered : callRing (Runs.waitingSet p) ring ≡ accepted (waitingAre (waitingIn (ring .head) p)) ring
   unfolding Calls.waitingSet
-  waiting-no-node beyond =
-      let none : nodeCount (view ring) ≤ p = omega (arith, known .holds .node-count) in
-      rw (sound-called (Runs.waitingSet p) ring ok, le-ltb _ _ none)
-
-  pub waiting-answered : p < ring .head .«node_count» →
-      callRing (Runs.waitingSet p) ring ≡ accepted (waitingAre (waitingIn (ring .head) p)) ring
-  unfolding Calls.waitingSet
-  waiting-answered inside =
-      let there : p < nodeCount (view ring) = omega (arith, known .holds .node-count) in
-      rw (sound-called (Runs.waitingSet p) ring ok, lt-ltb _ _ there)
+  waiting-answered =
+      let there : p < nodeCount (view ring) = omega (arith, known .holds .node-count, h .there) in
+      rw (sound-called (Runs.waitingSet p) ring (h .ok), lt-ltb _ _ there)
       (λ i. accepted (waitingAre (waiting-found i)) (known .laid-out i))
 
 -- the ones of a set of bits are counted one by one

@@ -127,7 +127,9 @@ pub fn move_at(
     let k = (cell - 1) as usize;
     let next = next_node(head.node_count, here);
     let phase = head.phases[k];
-    let target = target_of(phase, head.senders[k], head.receivers[k]);
+    let sender = head.senders[k];
+    let receiver = head.receivers[k];
+    let target = target_of(phase, sender, receiver);
     if target != next {
         return pass(head, slots, lines, offers, carried, here, next, cell);
     }

@@ -61,11 +61,11 @@ next-node-requires c κs = start (c .before) .pre .there
 element-copy-out-phase : tie.Need-element-copy-out-phase
 element-copy-out-phase c = cell-within (leaves (c .before .before))
 
-element-copy-out-target-of : tie.Need-element-copy-out-target-of
-element-copy-out-target-of c = cell-within (leaves (c .before .before .before))
+element-copy-out-sender : tie.Need-element-copy-out-sender
+element-copy-out-sender c = cell-within (leaves (c .before .before .before))
 
-element-copy-out-target-of-2 : tie.Need-element-copy-out-target-of-2
-element-copy-out-target-of-2 c = cell-within (leaves (c .before .before .before .before))
+element-copy-out-receiver : tie.Need-element-copy-out-receiver
+element-copy-out-receiver c = cell-within (leaves (c .before .before .before .before))
 
 pass-requires : tie.Need-pass-requires
 pass-requires c κs =
@@ -107,5 +107,5 @@ pub move-at-spec : {M : Type 1} → statement M
 move-at-spec =
     tie.close
     (tie.spec (λ c. search needs) element-copy-out-if1 (λ c κs. search needs) returns (λ c. search needs) element-copy-out-cell sub-k
-    cast-k next-node-requires element-copy-out-phase element-copy-out-target-of element-copy-out-target-of-2 (λ c κs. search needs)
+    cast-k next-node-requires element-copy-out-phase element-copy-out-sender element-copy-out-receiver (λ c κs. search needs)
     pass-requires (λ c. search needs) take-requires (λ c. search needs) deliver-requires (λ c. search needs))
