@@ -133,7 +133,7 @@ struct vessel_waiting {
 
 /* A command of the tape. `code` is its command byte: 0x10 add node (first: slots), 0x11 add channel (first: sender, second: receiver),
    0x12 start, 0x20 receive (first: channel), 0x21 send (first: channel; record), 0x22 enter (first: node), 0x23 move (first: node). What
-   a command does not have is zero when it is read, and is not looked at when it is written. */
+   a command does not have is zero when it is read, and is not looked at when it is written. No command has the code 0. */
 struct vessel_command {
     uint8_t code;
     uint8_t first;
@@ -141,7 +141,8 @@ struct vessel_command {
     struct vessel_record record;
 };
 
-/* What stands at a place of a tape: a refusal; `end` 1, the tape ends here; or the command and `next`, the place behind it. */
+/* What stands at a place of a tape: a refusal; `end` 1, the tape ends here; or the command and `next`, the place behind it. Where there is
+   no command, all of `command` is zero. */
 struct vessel_reading {
     size_t next; /* 0 where there is no command */
     uint8_t refusal;

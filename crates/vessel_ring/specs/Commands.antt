@@ -37,14 +37,15 @@ commandOf (Send channel) x = command (codeOf (Send channel)) channel 0 x
 commandOf (Enter node) x = command (codeOf (Enter node)) node 0 x
 commandOf (Move node) x = command (codeOf (Move node)) node 0 x
 
--- what was read: a command and the place after it, the end, or a refusal
-abbrev pub readingOf : ReadAnswer → Command → Reading
-readingOf (Read next) c = record { next = next; refusal = 0; end = 0; command = c }
-readingOf End c = record { next = 0; refusal = 0; end = 1; command = c }
-readingOf (Refused r) c = record { next = 0; refusal = numberOf r; end = 0; command = c }
+-- what was read: a command and the place after it, the end, or a refusal. Where there is no command all is 0, the record too, since
+-- the blank one stands beside such an answer
+abbrev pub readingOf : ReadAnswer → Action → Record → Reading
+readingOf (Read next) a x = record { next = next; refusal = 0; end = 0; command = commandOf a x }
+readingOf End a x = record { next = 0; refusal = 0; end = 1; command = command 0 0 0 x }
+readingOf (Refused r) a x = record { next = 0; refusal = numberOf r; end = 0; command = command 0 0 0 x }
 
 abbrev pub readingIn : read.Reading → Reading
-readingIn r = readingOf (r .answer) (commandOf (r .command .action) (recordFor (r .command .«record»)))
+readingIn r = readingOf (r .answer) (r .command .action) (recordFor (r .command .«record»))
 
 -- what a command byte and its operands stand for
 abbrev pub actionOf : ℕ → ℕ → ℕ → Wanted

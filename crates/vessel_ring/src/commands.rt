@@ -35,6 +35,7 @@ fn command_of(action: Action, record: Record) -> Command
     }
 }
 
+// Where there is no command, its command byte is 0, which no command has.
 pub fn reading_of(reading: tape::Reading) -> Reading
     ensures { λ r. ⌜ r ≡ readingIn reading ⌝ }
 {
@@ -42,27 +43,33 @@ pub fn reading_of(reading: tape::Reading) -> Reading
     let read = reading.command;
     let action = read.action;
     let record = record_for(read.record);
-    let command = command_of(action, record);
     match answer {
-        ReadAnswer::Read { next } => Reading {
-            next,
-            refusal: 0,
-            end: 0,
-            command,
-        },
-        ReadAnswer::End => Reading {
-            next: 0,
-            refusal: 0,
-            end: 1,
-            command,
-        },
+        ReadAnswer::Read { next } => {
+            let told = command_of(action, record);
+            Reading {
+                next,
+                refusal: 0,
+                end: 0,
+                command: told,
+            }
+        }
+        ReadAnswer::End => {
+            let none = command(0, 0, 0, record);
+            Reading {
+                next: 0,
+                refusal: 0,
+                end: 1,
+                command: none,
+            }
+        }
         ReadAnswer::Refused(refusal) => {
             let number = refusal.number();
+            let none = command(0, 0, 0, record);
             Reading {
                 next: 0,
                 refusal: number,
                 end: 0,
-                command,
+                command: none,
             }
         }
     }

@@ -14,7 +14,7 @@ use draw::Random;
 use model::{Answer, Call, Network, Record};
 use std::process::ExitCode;
 use tape::Read;
-use vessel_ring::{Command, Ring};
+use vessel_ring::{Command, Reading, Ring};
 
 /// How often each refusal was answered; 0 is none.
 struct Tally {
@@ -227,8 +227,8 @@ fn compare_reading(tape: &[u8], place: usize, tally: &mut Tally) -> Result<(), S
         Read::Command(call, next) => {
             (reading.refusal, reading.end, reading.next) == (0, 0, next) && Some(reading.command) == command_of(call)
         }
-        Read::End => (reading.refusal, reading.end, reading.next) == (0, 1, 0),
-        Read::Refused(number) => (reading.refusal, reading.end, reading.next) == (number, 0, 0),
+        Read::End => reading == Reading { end: 1, ..Reading::default() },
+        Read::Refused(refusal) => reading == Reading { refusal, ..Reading::default() },
     };
     if !same {
         return Err(format!("{tape:?} at {place}: {reading:?}; the model: {expected:?}"));
