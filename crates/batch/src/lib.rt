@@ -5,7 +5,7 @@ use refusal::Refusal;
 ghost use mathlib.Core.Path.{_≡_};
 ghost use mathlib.Core.Bool.{cond};
 ghost use lib.ListN as ListN;
-ghost use Rattle.batch.specs.Good.{every, isZero, isCharacter, nameLimit, nameCellsGood, recordOf, verdictOf, goodRecord};
+ghost use Rattle.batch.specs.Good.{every, isZero, isCharacter, nameLimit, nameCellsGood, recordOf, verdictOf, verdictNumber, goodRecord};
 ghost use Rattle.batch.specs.Blank.{noRecord};
 ghost use Rattle.batch.specs.Same.{sameBatch};
 
@@ -194,9 +194,10 @@ fn judge_fields(number: u32, vessel: u8, temperature: i16, name_length: u8, name
     }
 }
 
-// The first refusal that applies to a record.
+// The first refusal that applies to a record, and document 01's number for it.
 pub fn judge(record: BatchRecord) -> Verdict
     ensures { λ r. ⌜ r ≡ verdictOf «record» ⌝ }
+    ensures { λ r. ⌜ verdictNumber r ≡ verdictNumber (verdictOf «record») ⌝ }
 {
     let number = record.batch.0;
     let temperature = record.temperature;
