@@ -17,7 +17,7 @@ use Rattle.network.specs.Calls
 use Rattle.network.specs.Layout.{ringLimits, view, soundRing, heldOutcome, callRing, stepIn}
 use Rattle.network.specs.Runs.{Call, hopsLeft, waitingSet, call, after}
 use Rattle.network.proofs.Cases.{by-test}
-use Rattle.network.proofs.Demand.{ring-refuses-unsound, ring-safe}
+use Rattle.network.proofs.Demand.{ring-safe}
 
 -- no record is delivered
 abbrev Bare : {S : Type 0} → Outcome S → Type 0
@@ -45,11 +45,10 @@ module _ (ring : Ring) where
     leaves : after ring (callRing a ring) ≡ ring
     bare : Bare (callRing a ring)
 
-  question : (a : Call) → (soundRing ring ≡ true → after ring (callRing a ring) ≡ ring) → Bare (call ringLimits a (view ring)) →
-      Question a
+  question : (a : Call) → after ring (callRing a ring) ≡ ring → Bare (call ringLimits a (view ring)) → Question a
   unfolding callRing
   question a left bare = record {
-    leaves = by-test (soundRing ring) left λ broken. rw (ring-refuses-unsound a ring broken);
+    leaves = left;
     bare = bare-unless (soundRing ring) _ _ (bare-held (call ringLimits a (view ring)) bare);
   }
 

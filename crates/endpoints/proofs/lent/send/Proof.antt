@@ -39,7 +39,7 @@ returns-2 : tie.Need-returns-2
 returns-2 c =
     let told = c .before .before in
     let judged = told .before .before in
-    refuses _ (send-bad (at-channel (judged .before)) _ _ (sym (judged .judge .ensures) ∙ told .verdict .given .1)) (c .refuse2 .ensures)
+    refuses _ (send-bad (at-channel (judged .before)) _ _ (sym (judged .judge .ensures .0) ∙ told .verdict .given .1)) (c .refuse2 .ensures)
 
 returns : tie.Need-returns
 returns c =
@@ -58,7 +58,7 @@ module _ (c : tie.After-struct-known) where
   sent = start (there .before .before) .args .«record»
 
   good : verdictOf sent ≡ Good
-  good = sym (judged .judge .ensures) ∙ no-refusal _ (c .before .before .match2 .keys2)
+  good = sym (judged .judge .ensures .0) ∙ no-refusal _ (c .before .before .match2 .keys2)
 
   known : AtChannel (given (there .before .before)) (start (there .before .before) .args .channel .0)
   known = at-channel there
