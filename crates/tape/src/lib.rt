@@ -9,6 +9,8 @@ ghost use Prim.Native.Nat.{_≤_};
 ghost use lib.ListN.{length, drop};
 ghost use Rattle.wire.specs.Bytes.{numberAt, overwritten};
 ghost use Rattle.wire.specs.Record.{recordIn};
+ghost use Rattle.tape.specs.declared.Action.the-variants.{Start};
+ghost use Rattle.tape.specs.declared.Shape.the-variants.{Unknown};
 ghost use Rattle.tape.specs.Shape.{widthOf, carries, recordWith, bytesWith};
 ghost use Rattle.tape.specs.Table.{rowOf, rowWith, partsOf};
 ghost use Rattle.tape.specs.Tape.{readAt, writeAt, afterWrite, withNone, readNumber, writeNumber};
@@ -86,7 +88,7 @@ fn row_of(code: u8, first: u8, second: u8) -> Row
         0x21 => with_shape(Shape::ByteAndRecord, Action::Send(first)),
         0x22 => with_shape(Shape::Byte, Action::Enter(first)),
         0x23 => with_shape(Shape::Byte, Action::Move(first)),
-        _ => with_shape(Shape::Unknown, Action::Start),
+        _ => no_row(),
     }
 }
 
@@ -94,6 +96,13 @@ fn with_shape(shape: Shape, action: Action) -> Row
     ensures { λ r. ⌜ r ≡ record { shape = shape; action = action } ⌝ }
 {
     Row { shape, action }
+}
+
+// No command has this command byte.
+fn no_row() -> Row
+    ensures { λ r. ⌜ r ≡ record { shape = Unknown; action = Start } ⌝ }
+{
+    with_shape(Shape::Unknown, Action::Start)
 }
 
 // The table, to write: a line for each command.

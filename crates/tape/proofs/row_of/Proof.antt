@@ -5,10 +5,6 @@ use Rattle.tape.proofs.Rows.{unknown}
 use Rattle.tape.proofs.row_of.Statement.{statement}
 use Rattle.tape.proofs.row_of.Tie as tie
 
-other : tie.Need-returns-8
-unfolding commands
-other c = rw (c .with-shape8 .ensures, unknown (c .before .before .args .code) (c .before .match .rest))
-
 pub row-of-spec : {M : Type 1} → statement M
 unfolding rowOf find commands
 row-of-spec =
@@ -22,4 +18,4 @@ row-of-spec =
     (λ c. rw (c .with-shape5 .ensures, c .before .match .keys5))
     (λ c. rw (c .with-shape6 .ensures, c .before .match .keys6))
     (λ c. rw (c .with-shape7 .ensures, c .before .match .keys7))
-    other)
+    (λ c. rw (c .no-row .ensures, unknown (c .before .before .args .code) (c .before .match .rest))))

@@ -43,13 +43,16 @@ slice-aggregate-write-all c = sym (length-take-le _ (out (c .before .before)) (w
 
 loop-less : tie.Need-loop-less Inv-loop μ-loop
 loop-less c =
-    let run = c .before .before .before .before .before in
+    let written = c .before .before in
+    let run = written .before .before .before in
     let test = run .before .before in
     fewer-to-come (run .run .ensures) (run .run .kept .1 .1 .0) (not-true _ (test .if1 .taken))
     (omega (arith, test .before .before .loop .inv))
 
 loop-again : tie.Need-loop-again Inv-loop μ-loop
-loop-again c = as-long (c .before .before .before .before .before)
+loop-again c =
+    let written = c .before .before in
+    as-long (written .before .before .before)
 
 pub print-listing-spec : {M : Type 1} → statement M
 print-listing-spec =
