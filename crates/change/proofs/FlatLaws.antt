@@ -1,26 +1,25 @@
 -- Each change of a ring in memory (specs/Flat) is the change of the ring that it holds: laid out before and after, the two agree. A number
 -- that is stored is the number of the new node or channel, a row that is rewritten is its row. Assumes nothing.
-use Prim.Native.Nat.{ℕ, suc, _+_, _-_, _*_, _≤_, _<_, min}
+use Prim.Native.Nat.{ℕ, suc, _+_, _-_, _*_, _≤_, _<_}
 use mathlib.Core.Path.{_≡_, refl, sym, ap, _∙_}
 use mathlib.Core.Bool.{Bool, true, false, cond, _||_}
 use mathlib.Core.List.{List, [], _∷_, _++_, append-assoc}
-use mathlib.Core.Option.{Option, none, some}
+use mathlib.Core.Option.{none, some}
 use native.Mathlib.Nat.{add-zero}
 use native.Mathlib.Omega.{arith}
 use lib.Dec.{ltb}
-use lib.ListN.{length, getD, set, take, drop, replicate, length-append, length-set, replicate-append-replicate}
-use lib.Seq.{take-at, drop-at, drop-drop, getD-set-same}
+use lib.ListN.{length, getD, set, take, drop, replicate, length-append, replicate-append-replicate}
+use lib.Seq.{take-at, drop-at, drop-drop}
 use borrow.Author.Tests.{lt-ltb}
 use Rattle.batch.specs.declared.BatchRecord.{BatchRecord}
-use Rattle.batch.specs.Blank.{noRecord}
 use Rattle.wire.specs.Record.{recordLength, RecordFits}
 use Rattle.network.specs.Counting.{one, occupied}
-use Rattle.network.specs.Network.{Network, NodeState, ChannelState, Phase, resting, asking, ready, answering, nodeCount, channelCount, noNode, noChannel, node, channel, withNode, withChannel}
+use Rattle.network.specs.Network.{Network, NodeState, ChannelState, Phase, resting, answering, nodeCount, channelCount, noNode, noChannel, node, channel, withNode, withChannel}
 use Rattle.network.specs.Sound.{oneMore}
 use Rattle.network.specs.Calls.{joinLine, deliver, leave, pass}
 use Rattle.network.specs.Layout.{nodeRoom, channelRoom, rowLength, cellRoom, row, padded, rows, cellsOf, phaseCode, offeredFlag, offerBytes, carriedBytes, byNode, byChannel, holdHead, hold, withDeliveries, ringIn}
 use Rattle.network.proofs.Rows.{map-append, getD-padded, padded-more, length-cells, row-end, getD-row, putRow, put-push}
-use Rattle.network.proofs.Memory.{Fits, OfferFits, CarriedFits, HeldNode, HeldChannel, held, held-node, held-channel}
+use Rattle.network.proofs.Memory.{Fits, HeldNode, HeldChannel, held, held-node, held-channel}
 use Rattle.network.proofs.Changes.{numbers, cells, numbers-set, numbers-left, cells-set, cells-left, hold-with-node, hold-with-channel}
 use Rattle.change.specs.Flat.{appended, cutRow, cutAt, joined, left, entered, passed, phased, offered, withdrawn, answered, rested, handedOut}
 use Rattle.change.proofs.Records.{recorded-row, cleared-row}

@@ -1,20 +1,19 @@
 -- What the code reads of a sound ring in memory is what the definitions read of the ring that it holds: nodes, channels, and the numbers
 -- that stand for a phase, an offer, an empty queue. Assumes nothing.
 use Prim.Native.Nat.{ℕ, _≤_, _<_}
-use mathlib.Core.Path.{_≡_, refl, ap, _∙_}
+use mathlib.Core.Path.{_≡_, refl}
 use mathlib.Core.Logic.{_≢_}
-use mathlib.Core.Bool.{Bool, true, false}
+use mathlib.Core.Bool.{true, false}
 use mathlib.Core.List.{List, [], _∷_}
 use mathlib.Core.Option.{Option, none, some}
 use native.Mathlib.Omega.{arith}
 use lib.ListN.{length}
 use Rattle.batch.specs.declared.BatchRecord.{BatchRecord}
 use Rattle.network.specs.declared.Ring.{Ring}
-use Rattle.network.specs.Network.{Phase, resting, asking, ready, answering, nodeCount, channelCount, node, channel, moving}
+use Rattle.network.specs.Network.{Phase, resting, asking, ready, answering, nodeCount, channelCount}
 use Rattle.network.specs.Sound.{isResting, isReady, absent}
-use Rattle.network.specs.Layout.{nodeRoom, channelRoom, rowLength, phaseCode, offeredFlag, recordAt, view}
-use Rattle.network.proofs.Cases.{by-phase, by-option, both-ways}
-use Rattle.network.proofs.Memory.{SoundRing, sound-ring, HeldNode, HeldChannel, phase-read, offer-read}
+use Rattle.network.specs.Layout.{nodeRoom, channelRoom, rowLength, phaseCode, offeredFlag, view}
+use Rattle.network.proofs.Memory.{SoundRing, sound-ring, HeldNode, HeldChannel}
 use Rattle.change.specs.Flat.{capacityAt}
 use Rattle.change.specs.Known.{AtNode, AtChannel}
 use Rattle.change.proofs.Openings.{running}

@@ -12,8 +12,6 @@ use network::Step;
 use refusal::Refusal;
 ghost use mathlib.Core.Path.{_≡_};
 ghost use Rattle.network.specs.declared.Ring.{Ring};
-ghost use Rattle.network.specs.Answers.{replyOf};
-ghost use Rattle.network.specs.Calls.{done, refused, accepted};
 ghost use Rattle.network.specs.Layout.{stepIn};
 ghost use Rattle.change.specs.Answered.{refusedStep, doneStep};
 

@@ -1,20 +1,19 @@
 -- The three calls that build a ring, on a sound ring in memory that has not started: each refusal by the tests that the code makes, and what an accepted
 -- call leaves in memory. Assumes nothing.
 use Prim.Native.Nat.{ℕ, _+_, _≤_, _<_}
-use mathlib.Core.Path.{_≡_, refl, sym, ap, _∙_}
+use mathlib.Core.Path.{_≡_, sym, ap, _∙_}
 use mathlib.Core.Bool.{true, false, _&&_, not}
-use native.Mathlib.Omega.{arith}
 use lib.Dec.{leb, ltb}
-use lib.ListN.{length, getD, set}
+use lib.ListN.{getD, set}
 use borrow.Author.Tests.{lt-ltb, le-ltb, le-leb, lt-leb}
 use Rattle.refusal.specs.declared.Refusal.the-variants.{NodesFull, BadSlots, ChannelsFull, NoSuchEnd, NothingToStart, TooFewSlots}
 use Rattle.network.specs.declared.Ring.{Ring}
 use Rattle.network.specs.Counting.{sum}
-use Rattle.network.specs.Network.{nodeCount, channelCount, slotCount, node, noNode}
+use Rattle.network.specs.Network.{nodeCount, channelCount, slotCount, node}
 use Rattle.network.specs.Calls.{done, refused, accepted}
 use Rattle.network.specs.Calls
 use Rattle.network.specs.Runs
-use Rattle.network.specs.Layout.{ringLimits, nodeRoom, channelRoom, view, hold, callRing}
+use Rattle.network.specs.Layout.{ringLimits, nodeRoom, view, callRing}
 use Rattle.network.proofs.Counting.{sum-same, sum-beyond}
 use Rattle.network.proofs.Memory.{SoundRing, sound-ring, no-node}
 use Rattle.network.proofs.Changes.{planned, withHead, hold-with-new-node, hold-with-new-channel, hold-with-started}

@@ -12,7 +12,7 @@ use Rattle.network.specs.Network.{Network, node}
 use Rattle.network.specs.Calls.{done, refused, accepted, enterFirst}
 use Rattle.network.specs.Calls
 use Rattle.network.specs.Runs
-use Rattle.network.specs.Layout.{nodeRoom, rowLength, cellRoom, view, heldOutcome, callRing}
+use Rattle.network.specs.Layout.{rowLength, cellRoom, view, heldOutcome, callRing}
 use Rattle.network.proofs.Cases.{by-list}
 use Rattle.change.specs.Flat.{capacityAt, usedAt, waitingAt, entered}
 use Rattle.change.specs.Known.{AtNode}

@@ -1,20 +1,19 @@
 -- The call "move" at a node of a sound started ring. The first cell of the buffer is a message under way on a channel of the ring; each
 -- refusal and each of the three ways it goes (taken, delivered, passed on) by the tests that the code makes. Assumes nothing.
-use Prim.Native.Nat.{ℕ, suc, _+_, _-_, _*_, _≤_, _<_, min}
+use Prim.Native.Nat.{ℕ, suc, _+_, _-_, _*_, _≤_, _<_}
 use mathlib.Core.Path.{_≡_, refl, sym, ap, subst, _∙_}
 use mathlib.Core.Logic.{_≢_}
-use mathlib.Core.Bool.{true, false, cond}
+use mathlib.Core.Bool.{true, false}
 use mathlib.Core.List.{List, _∷_}
 use mathlib.Core.Option.{Option, none, some}
 use native.Mathlib.Omega.{arith}
-use lib.Dec.{eqb}
 use lib.ListN.{length, set, length-set}
 use lib.Seq.{getD-set-same, getD-set-other, set-set}
 use borrow.Author.Tests.{lt-ltb, le-ltb, eq-eqb, ne-eqb}
 use Rattle.refusal.specs.declared.Refusal.the-variants.{BufferEmpty, NextBufferFull, TurnMarkSet}
 use Rattle.batch.specs.declared.BatchRecord.{BatchRecord}
 use Rattle.batch.specs.Blank.{noRecord}
-use Rattle.wire.specs.Record.{recordLength, recordIn, RecordFits}
+use Rattle.wire.specs.Record.{recordLength, recordIn}
 use Rattle.hops.specs.Hops.{next}
 use Rattle.hops.proofs.Laws.{next-below}
 use Rattle.network.specs.declared.Head.{Head}
@@ -28,7 +27,7 @@ use Rattle.network.specs.Calls
 use Rattle.network.specs.Runs
 use Rattle.network.specs.Layout.{ringLimits, nodeRoom, channelRoom, rowLength, cellRoom, row, padded, cellsOf, phaseCode, offeredFlag, offerBytes, carriedBytes, recordAt, view, hold, heldOutcome, callRing, withNodes, withDeliveries, stepIn}
 use Rattle.network.specs.Sound.{oneMore}
-use Rattle.network.proofs.Cases.{by-list, by-option, by-phase, by-same, both-ways}
+use Rattle.network.proofs.Cases.{by-list, by-phase, by-same, both-ways}
 use Rattle.network.proofs.Counting.{count-same, weigh-cons}
 use Rattle.network.proofs.Tables.{netOf, stateOf}
 use Rattle.network.proofs.Clauses.{sound-started}

@@ -21,19 +21,19 @@ element-copy-out-used c = node-within (c .before .pre)
 element-copy-out-waiting : tie.Need-element-copy-out-waiting
 element-copy-out-waiting c = node-within (c .before .before .pre)
 
-returns : tie.Need-returns
-returns c = refuses _ (enter-empty (start (c .before .before) .pre) (c .before .if1 .taken)) (c .refuse .ensures)
-
 element-copy-out-if2 : tie.Need-element-copy-out-if2
 element-copy-out-if2 c = node-within (start (c .before) .pre)
+
+element-copy-out-first : tie.Need-element-copy-out-first
+element-copy-out-first c = row-within (start (waits c .before) .pre)
+
+returns : tie.Need-returns
+returns c = refuses _ (enter-empty (start (c .before .before) .pre) (c .before .if1 .taken)) (c .refuse .ensures)
 
 returns-2 : tie.Need-returns-2
 returns-2 c =
     let some = c .before .before .before in
     refuses _ (enter-full (start (some .before) .pre) (some .if1 .left) (c .before .if2 .taken)) (c .refuse2 .ensures)
-
-element-copy-out-first : tie.Need-element-copy-out-first
-element-copy-out-first c = row-within (start (waits c .before) .pre)
 
 put-requires : tie.Need-put-requires
 put-requires c κs =

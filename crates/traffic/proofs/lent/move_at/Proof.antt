@@ -88,20 +88,14 @@ arrives c = sym (c .before .target-of .ensures) ∙ c .if2 .left ∙ next-is (c 
 take-requires : tie.Need-take-requires
 take-requires c κs =
     let asks = c .before .before .before .before in
-    record {
-      leaves = leaves (some (asks .before .before));
-      asks = asks .if3 .taken;
-      arrives = rw (eq-eqb _ 1 (asks .if3 .taken)) at (arrives (asks .before));
-    }
+    let here = rw (eq-eqb _ 1 (asks .if3 .taken)) at (arrives (asks .before)) in
+    record { leaves = leaves (some (asks .before .before)); asks = asks .if3 .taken; arrives = here }
 
 deliver-requires : tie.Need-deliver-requires
 deliver-requires c κs =
     let answers = c .before .before .before .before in
-    record {
-      leaves = leaves (some (answers .before .before));
-      answers = answers .if3 .left;
-      arrives = rw (ne-eqb _ 1 (answers .if3 .left)) at (arrives (answers .before));
-    }
+    let here = rw (ne-eqb _ 1 (answers .if3 .left)) at (arrives (answers .before)) in
+    record { leaves = leaves (some (answers .before .before)); answers = answers .if3 .left; arrives = here }
 
 pub move-at-spec : {M : Type 1} → statement M
 move-at-spec =
