@@ -1,6 +1,6 @@
 -- The walk of a question about a ring that is lent by `&`: the ring is read into a local and passed to the question by value, and what
--- that answers is returned. It goes by any list of further parameters, any plain type of the answer, and any question by value whose
--- contract is `r ≡ F ring parameters`, which is its own contract then. Assumes nothing.
+-- that answers is returned. It goes by any list of further parameters, any plain type of the answer, any question by value whose
+-- contract is `r ≡ F ring parameters`, and any contract that holds of what F says. Assumes nothing.
 use mathlib.Core.Path.{_≡_, refl, sym, subst}
 use Prim.Native.Nat.{ℕ, suc}
 use mathlib.Core.List.{List, [], _∷_}
@@ -14,7 +14,6 @@ use prog.Model.{Model}
 use prog.Routine.{Env, Routine}
 use prog.Wp.{Heap, Calls, Loops, WpFn, Tables, Closed}
 use ghost.Atoms.{Atoms, sem}
-use contract.Monad.{fact, factI}
 use contract.Lifetimes.{Lfts}
 use contract.Running.{GhostRules, Running, givenOf, tables, tablesOf}
 use types.Kit.{Given, ‵, _⊛_, _$_, _∵_, !, qed, by, move, keep, drop, use0, split, join, fsplit, fsplit3, fjoin, fjoin3, feqI, rewrite, suffices, frame, done}
@@ -62,7 +61,7 @@ asking g ps X = record {
 
 module _ (ps : List Kind) (X : Kind) (F : Ring → Values ps → X .row .Denot) where
   -- ---- its contract
-  abbrev Shared : Ended
+  abbrev pub Shared : Ended
   Shared = record {
     signature = record {
       lifetimes = 1;
@@ -78,24 +77,17 @@ module _ (ps : List Kind) (X : Kind) (F : Ring → Values ps → X .row .Denot) 
   answerOf κs a = F (now (a .0)) (across 1 κs ps (a .1))
 
   module _ {M : Type 1} (𝓤 : URA M) where
-    abbrev Clause : Type 2
+    abbrev pub Clause : Type 2
     Clause = (κs : Lfts 1) → Args (Shared .signature) κs → X .row .Denot → AtExit Shared κs → SProp 𝓤
 
     -- the clause holds of that answer
-    abbrev Says : Clause → Type 1
+    abbrev pub Says : Clause → Type 1
     Says Q =
         (κs : Lfts 1) (a : Args (Shared .signature) κs) (ws : Fins κs (slots 1 ps) (kept 1 ps) (a .1)) →
         ent 𝓤 (emp 𝓤) (Q κs a (answerOf κs a) (atExit Shared κs a (tt, ws)))
 
     abbrev clauses : Clause → Clauses 𝓤 Shared
     clauses Q κs a = record { ghost = Unit {0}; requires = λ _. emp 𝓤; ensures = λ _. Q κs a }
-
-    -- the clause that every question has
-    abbrev Answered : Clause
-    Answered κs a r z = fact 𝓤 (r ≡ answerOf κs a)
-
-    answered : Says Answered
-    answered κs a ws = factI 𝓤 _ (emp 𝓤) refl
 
   abbrev stayed : Stays (Shared .signature .params) (Shared .kept)
   stayed = (stay-none-ref (0 ∷ []) tt (plain (λ _. R.the-row)) yes, stays 1 ps)
@@ -196,13 +188,13 @@ module _ (ps : List Kind) (X : Kind) (F : Ring → Values ps → X .row .Denot) 
           (κs .0) (qs .0) (a .0 .ptr .0) (a .0 .ptr .1) (a .0 .name) (a .0 .now) Q says (a .1) (are .1))))
 
     pub question :
-        (𝓜 : Model 𝓤 H) (𝓖 : GhostRules 𝓤 H) (𝓡 : Running 𝓤 H 𝓜) (env : Env) (key g : Name) (callee : Routine) →
+        (𝓜 : Model 𝓤 H) (𝓖 : GhostRules 𝓤 H) (𝓡 : Running 𝓤 H 𝓜) (Q : Clause 𝓤) → Says 𝓤 Q → (env : Env) (key g : Name) (callee : Routine) →
         Closed 𝓤 H (tables 𝓤 H 𝓜 𝓡 env .C) (tables 𝓤 H 𝓜 𝓡 env .Λ) key (asking g ps X) → env g ≡ callee →
         Triple 𝓤 (𝓡 .run callee) (CallOf (X .row) ps F 𝓤 H (𝓖 .A)) →
-        Meets 𝓤 H (𝓖 .A) (Shared .signature) (tables 𝓤 H 𝓜 𝓡 env .C key) (closing 𝓤 H (𝓖 .A) Shared (clauses 𝓤 (Answered 𝓤)))
+        Meets 𝓤 H (𝓖 .A) (Shared .signature) (tables 𝓤 H 𝓜 𝓡 env .C key) (closing 𝓤 H (𝓖 .A) Shared (clauses 𝓤 Q))
     unfolding tablesOf
-    question 𝓜 𝓖 𝓡 env key g callee closed calls met =
-        entered 𝓤 H (tripleOf 𝓤 H (𝓖 .A) (Shared .signature) (closing 𝓤 H (𝓖 .A) Shared (clauses 𝓤 (Answered 𝓤))))
+    question 𝓜 𝓖 𝓡 Q says env key g callee closed calls met =
+        entered 𝓤 H (tripleOf 𝓤 H (𝓖 .A) (Shared .signature) (closing 𝓤 H (𝓖 .A) Shared (clauses 𝓤 Q)))
         (tables 𝓤 H 𝓜 𝓡 env .C) (tables 𝓤 H 𝓜 𝓡 env .Λ) key (asking g ps X) closed
-        (meets (𝓖 .A) (givenOf 𝓤 H 𝓜 𝓖) (Answered 𝓤) (answered 𝓤) (tablesOf 𝓤 H 𝓜 (tables 𝓤 H 𝓜 𝓡 env)) g
+        (meets (𝓖 .A) (givenOf 𝓤 H 𝓜 𝓖) Q says (tablesOf 𝓤 H 𝓜 (tables 𝓤 H 𝓜 𝓡 env)) g
         (cited 𝓤 H (CallOf (X .row) ps F 𝓤 H (𝓖 .A)) 𝓜 𝓡 env g callee calls met))

@@ -1,7 +1,7 @@
 -- The walk of a call in place, which proves every function that changes a ring: the ring behind the `&mut` is read into a local and
 -- passed to the call by value, the ring that comes back is stored behind the reference, and what came beside it is returned. It goes by
--- any struct of a ring and a plain value, any list of further parameters, and any call by value whose contract is `r ≡ F ring parameters`;
--- the contract says that the ring at exit and the answer are F's. Assumes nothing.
+-- any struct of a ring and a plain value, any list of further parameters, any call by value whose contract is `r ≡ F ring parameters`,
+-- and any contract that holds of F's ring and value. Assumes nothing.
 use mathlib.Core.Path.{_≡_, refl, sym, subst}
 use Prim.Native.Nat.{ℕ, suc}
 use mathlib.Core.List.{List, [], _∷_}
@@ -17,7 +17,6 @@ use prog.Model.{Model}
 use prog.Routine.{Env, Routine}
 use prog.Wp.{Heap, Calls, Loops, WpFn, Tables, Closed}
 use ghost.Atoms.{Atoms}
-use contract.Monad.{fact, factI}
 use contract.Lifetimes.{Lfts}
 use contract.Running.{GhostRules, Running, givenOf, tables, tablesOf}
 use types.Kit.{Given, Item, Sq, Post, runs, ‵, _⊛_, _$_, _∵_, !, qed, by, move, keep, drop, use0, split, join, fsplit, fsplit3, fjoin, fjoin3, feqI, rewrite, suffices, frame, done}
@@ -83,7 +82,7 @@ statements g ps =
     (seq (assign (place 0 []) (rvOpd (copy (place (at-step ps) (field 1 ∷ [])))))
     return)))
 
-abbrev inPlace : (X : Kind) → Paired X → Name → List Kind → Fn
+abbrev pub inPlace : (X : Kind) → Paired X → Name → List Kind → Fn
 inPlace X T g ps = record {
   lifetimes = 1;
   outlives = [];
@@ -94,7 +93,7 @@ inPlace X T g ps = record {
 
 module _ (X : Kind) (T : Paired X) (ps : List Kind) (F : Ring → Values ps → T .row .Denot) where
   -- ---- its contract
-  abbrev Lent : Ended
+  abbrev pub Lent : Ended
   Lent = record {
     signature = record {
       lifetimes = 1;
@@ -106,28 +105,21 @@ module _ (X : Kind) (T : Paired X) (ps : List Kind) (F : Ring → Values ps → 
   }
 
   -- what the call by value returns
-  abbrev returned : (κs : Lfts 1) → Args (Lent .signature) κs → T .row .Denot
+  abbrev pub returned : (κs : Lfts 1) → Args (Lent .signature) κs → T .row .Denot
   returned κs a = F (now (a .0)) (across 1 κs ps (a .1))
 
   module _ {M : Type 1} (𝓤 : URA M) where
-    abbrev Clause : Type 2
+    abbrev pub Clause : Type 2
     Clause = (κs : Lfts 1) → Args (Lent .signature) κs → X .row .Denot → AtExit Lent κs → SProp 𝓤
 
     -- the clause holds where the ring and the value are those of the pair
-    abbrev Says : Clause → Type 1
+    abbrev pub Says : Clause → Type 1
     Says Q =
         (κs : Lfts 1) (a : Args (Lent .signature) κs) (ws : Fins κs (slots 1 ps) (kept 1 ps) (a .1)) →
         ent 𝓤 (emp 𝓤) (Q κs a (T .out (returned κs a)) (atExit Lent κs a (T .ring (returned κs a), ws)))
 
-    abbrev clauses : Clause → Clauses 𝓤 Lent
+    abbrev pub clauses : Clause → Clauses 𝓤 Lent
     clauses Q κs a = record { ghost = Unit {0}; requires = λ _. emp 𝓤; ensures = λ _. Q κs a }
-
-    -- the clause that every such function has
-    abbrev Changed : Clause
-    Changed κs a r z = fact 𝓤 ((now (z .0) ≡ T .ring (returned κs a)) × (r ≡ T .out (returned κs a)))
-
-    changed : Says Changed
-    changed κs a ws = factI 𝓤 _ (emp 𝓤) (refl, refl)
 
   abbrev stayed : Stays (Lent .signature .params) (Lent .kept)
   stayed = (stay-ref (0 ∷ []) tt (plain (λ _. R.the-row)), stays 1 ps)
@@ -259,13 +251,13 @@ module _ (X : Kind) (T : Paired X) (ps : List Kind) (F : Ring → Values ps → 
           (κs .0) (qs .0) (a .0 .ptr .0) (a .0 .ptr .1) (a .0 .name) (a .0 .now) Q says (a .1) (are .1))))
 
     pub in-place :
-        (𝓜 : Model 𝓤 H) (𝓖 : GhostRules 𝓤 H) (𝓡 : Running 𝓤 H 𝓜) (env : Env) (key g : Name) (callee : Routine) →
+        (𝓜 : Model 𝓤 H) (𝓖 : GhostRules 𝓤 H) (𝓡 : Running 𝓤 H 𝓜) (Q : Clause 𝓤) → Says 𝓤 Q → (env : Env) (key g : Name) (callee : Routine) →
         Closed 𝓤 H (tables 𝓤 H 𝓜 𝓡 env .C) (tables 𝓤 H 𝓜 𝓡 env .Λ) key (inPlace X T g ps) → env g ≡ callee →
         Triple 𝓤 (𝓡 .run callee) (CallOf (T .row) ps F 𝓤 H (𝓖 .A)) →
-        Meets 𝓤 H (𝓖 .A) (Lent .signature) (tables 𝓤 H 𝓜 𝓡 env .C key) (closing 𝓤 H (𝓖 .A) Lent (clauses 𝓤 (Changed 𝓤)))
+        Meets 𝓤 H (𝓖 .A) (Lent .signature) (tables 𝓤 H 𝓜 𝓡 env .C key) (closing 𝓤 H (𝓖 .A) Lent (clauses 𝓤 Q))
     unfolding tablesOf
-    in-place 𝓜 𝓖 𝓡 env key g callee closed calls met =
-        entered 𝓤 H (tripleOf 𝓤 H (𝓖 .A) (Lent .signature) (closing 𝓤 H (𝓖 .A) Lent (clauses 𝓤 (Changed 𝓤))))
+    in-place 𝓜 𝓖 𝓡 Q says env key g callee closed calls met =
+        entered 𝓤 H (tripleOf 𝓤 H (𝓖 .A) (Lent .signature) (closing 𝓤 H (𝓖 .A) Lent (clauses 𝓤 Q)))
         (tables 𝓤 H 𝓜 𝓡 env .C) (tables 𝓤 H 𝓜 𝓡 env .Λ) key (inPlace X T g ps) closed
-        (meets (𝓖 .A) (givenOf 𝓤 H 𝓜 𝓖) (Changed 𝓤) (changed 𝓤) (tablesOf 𝓤 H 𝓜 (tables 𝓤 H 𝓜 𝓡 env)) g
+        (meets (𝓖 .A) (givenOf 𝓤 H 𝓜 𝓖) Q says (tablesOf 𝓤 H 𝓜 (tables 𝓤 H 𝓜 𝓡 env)) g
         (cited 𝓤 H (CallOf (T .row) ps F 𝓤 H (𝓖 .A)) 𝓜 𝓡 env g callee calls met))

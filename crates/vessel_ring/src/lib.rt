@@ -7,7 +7,7 @@
 //
 // - its function in `by_number`, which makes the call by value and tells its answer in numbers, with a proof of one line;
 // - the exported function here, three lines and its contract, with a proof that names the two functions, the operands and the call
-//   (`Walk.antt` of `site` has the argument); a question is one line, by `Question.antt` of `site`;
+//   (`proofs/InPlace.antt` has the argument); a question is one line, by `Question.antt` of `site`;
 // - where its answer has a value that no other has, a field of `Said` and of the struct that it answers;
 // - its prototype in the header, and its arm in tests/calls.
 //
