@@ -54,7 +54,7 @@ pub enum Writing {
 }
 
 // The shapes of a command: what follows its command byte.
-enum Shape {
+pub enum Shape {
     // No command has this command byte.
     Unknown,
     Bare,
@@ -64,20 +64,20 @@ enum Shape {
 }
 
 // A command byte's row of the table: the shape of its command, and the action that its operands make.
-struct Row {
-    shape: Shape,
-    action: Action,
+pub struct Row {
+    pub shape: Shape,
+    pub action: Action,
 }
 
 // The command byte of an action, and its operands of one byte, 0 where it has none.
-struct Parts {
-    code: u8,
-    first: u8,
-    second: u8,
+pub struct Parts {
+    pub code: u8,
+    pub first: u8,
+    pub second: u8,
 }
 
 // The table, to read: a line for each command.
-fn row_of(code: u8, first: u8, second: u8) -> Row
+pub fn row_of(code: u8, first: u8, second: u8) -> Row
     ensures { λ r. ⌜ r ≡ rowWith (rowOf code) first second ⌝ }
 {
     match code {
@@ -106,7 +106,7 @@ fn no_row() -> Row
 }
 
 // The table, to write: a line for each command.
-fn parts_of(action: Action) -> Parts
+pub fn parts_of(action: Action) -> Parts
     ensures { λ r. ⌜ r ≡ partsOf action ⌝ }
 {
     match action {

@@ -1,20 +1,19 @@
 -- A command of the tape in plain numbers, and what reading and writing one answers. Assumes nothing.
 use Prim.Native.Nat.{ℕ}
-use mathlib.Core.Bool.{cond}
 use mathlib.Core.List.{List}
-use lib.Dec.{eqb}
 use Rattle.batch.specs.declared.BatchRecord.{BatchRecord}
 use Rattle.refusal.specs.Number.{numberOf}
 use Rattle.refusal.specs.declared.Refusal.the-variants.{UnknownCommand}
 use Rattle.tape.specs.declared.Action.{Action}
-use Rattle.tape.specs.declared.Action.the-variants.{AddNode, AddChannel, Start, Receive, Send, Enter, Move}
 use Rattle.tape.specs.declared.Command as tape
 use Rattle.tape.specs.declared.ReadAnswer.{ReadAnswer}
 use Rattle.tape.specs.declared.ReadAnswer.the-variants.{Read, End, Refused}
 use Rattle.tape.specs.declared.Reading as read
 use Rattle.tape.specs.declared.Writing as wrote
 use Rattle.tape.specs.declared.Writing.the-variants as written
-use Rattle.tape.specs.Table.{codeOf}
+use Rattle.tape.specs.declared.Shape.{Shape}
+use Rattle.tape.specs.declared.Shape.the-variants as shape
+use Rattle.tape.specs.Table.{partsOf, rowOf}
 use Rattle.tape.specs.Tape.{writeAt, afterWrite}
 use Rattle.vessel_ring.specs.declared.Command.{Command}
 use Rattle.vessel_ring.specs.declared.Reading.{Reading}
@@ -27,15 +26,9 @@ use Rattle.vessel_ring.specs.Records.{recordOf, recordFor}
 abbrev pub command : ℕ → ℕ → ℕ → Record → Command
 command code first second x = record { code = code; first = first; second = second; «record» = x }
 
--- an action as its command byte and its operands; what it does not have is 0
+-- an action as its command byte and its operands, from the tape's table; what it does not have is 0
 abbrev pub commandOf : Action → Record → Command
-commandOf (AddNode slots) x = command (codeOf (AddNode slots)) slots 0 x
-commandOf (AddChannel sender receiver) x = command (codeOf (AddChannel sender receiver)) sender receiver x
-commandOf Start x = command (codeOf Start) 0 0 x
-commandOf (Receive channel) x = command (codeOf (Receive channel)) channel 0 x
-commandOf (Send channel) x = command (codeOf (Send channel)) channel 0 x
-commandOf (Enter node) x = command (codeOf (Enter node)) node 0 x
-commandOf (Move node) x = command (codeOf (Move node)) node 0 x
+commandOf a x = command (partsOf a .code) (partsOf a .first) (partsOf a .second) x
 
 -- what was read: a command and the place after it, the end, or a refusal. Where there is no command all is 0, the record too, since
 -- the blank one stands beside such an answer
@@ -47,17 +40,16 @@ readingOf (Refused r) a x = record { next = 0; refusal = numberOf r; end = 0; co
 abbrev pub readingIn : read.Reading → Reading
 readingIn r = readingOf (r .answer) (r .command .action) (recordFor (r .command .«record»))
 
--- what a command byte and its operands stand for
+-- what a command byte and its operands stand for, from the same table
+abbrev pub wantedIn : Shape → Action → Wanted
+wantedIn shape.Unknown a = Unknown
+wantedIn shape.Bare a = Known a
+wantedIn shape.Byte a = Known a
+wantedIn shape.TwoBytes a = Known a
+wantedIn shape.ByteAndRecord a = Known a
+
 abbrev pub actionOf : ℕ → ℕ → ℕ → Wanted
-actionOf code first second =
-    cond (eqb code 0x10) (Known (AddNode first))
-    (cond (eqb code 0x11) (Known (AddChannel first second))
-    (cond (eqb code 0x12) (Known Start)
-    (cond (eqb code 0x20) (Known (Receive first))
-    (cond (eqb code 0x21) (Known (Send first))
-    (cond (eqb code 0x22) (Known (Enter first))
-    (cond (eqb code 0x23) (Known (Move first))
-    Unknown))))))
+actionOf code first second = wantedIn (rowOf code .shape) (rowOf code .action first second)
 
 abbrev pub writingIn : wrote.Writing → Writing
 writingIn (written.Written next) = record { next = next; refusal = 0 }

@@ -7,8 +7,9 @@ use crate::records::record_for;
 use crate::records::record_of;
 use tape::Action;
 use tape::ReadAnswer;
+use tape::Shape;
 ghost use mathlib.Core.Path.{_≡_};
-ghost use Rattle.vessel_ring.specs.Commands.{command, commandOf, readingIn, actionOf, writingIn, writingTo, afterWriting};
+ghost use Rattle.vessel_ring.specs.Commands.{command, commandOf, readingIn, wantedIn, actionOf, writingIn, writingTo, afterWriting};
 
 fn command(code: u8, first: u8, second: u8, record: Record) -> Command
     ensures { λ r. ⌜ r ≡ command code first second «record» ⌝ }
@@ -24,15 +25,8 @@ fn command(code: u8, first: u8, second: u8, record: Record) -> Command
 fn command_of(action: Action, record: Record) -> Command
     ensures { λ r. ⌜ r ≡ commandOf action «record» ⌝ }
 {
-    match action {
-        Action::AddNode(slots) => command(0x10, slots, 0, record),
-        Action::AddChannel(sender, receiver) => command(0x11, sender, receiver, record),
-        Action::Start => command(0x12, 0, 0, record),
-        Action::Receive(channel) => command(0x20, channel, 0, record),
-        Action::Send(channel) => command(0x21, channel, 0, record),
-        Action::Enter(node) => command(0x22, node, 0, record),
-        Action::Move(node) => command(0x23, node, 0, record),
-    }
+    let parts = tape::parts_of(action);
+    command(parts.code, parts.first, parts.second, record)
 }
 
 // Where there is no command, its command byte is 0, which no command has.
@@ -84,15 +78,21 @@ enum Wanted {
 fn action_of(code: u8, first: u8, second: u8) -> Wanted
     ensures { λ r. ⌜ r ≡ actionOf code first second ⌝ }
 {
-    match code {
-        0x10 => Wanted::Known(Action::AddNode(first)),
-        0x11 => Wanted::Known(Action::AddChannel(first, second)),
-        0x12 => Wanted::Known(Action::Start),
-        0x20 => Wanted::Known(Action::Receive(first)),
-        0x21 => Wanted::Known(Action::Send(first)),
-        0x22 => Wanted::Known(Action::Enter(first)),
-        0x23 => Wanted::Known(Action::Move(first)),
-        _ => Wanted::Unknown,
+    let row = tape::row_of(code, first, second);
+    let shape = row.shape;
+    let action = row.action;
+    known_by(shape, action)
+}
+
+fn known_by(shape: Shape, action: Action) -> Wanted
+    ensures { λ r. ⌜ r ≡ wantedIn shape action ⌝ }
+{
+    match shape {
+        Shape::Unknown => Wanted::Unknown,
+        Shape::Bare => Wanted::Known(action),
+        Shape::Byte => Wanted::Known(action),
+        Shape::TwoBytes => Wanted::Known(action),
+        Shape::ByteAndRecord => Wanted::Known(action),
     }
 }
 
