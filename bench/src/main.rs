@@ -1,13 +1,15 @@
 //! bench ROUNDS TAPE...: the proved code against the second model, in one process, in turn, on the same tapes. Both make the test for a
 //! sound ring in every call. For each tape it prints the commands per second of both and the ratio, proved to model: the median of the
-//! rounds, and the lowest and highest tenth as the spread. A listing that differs stops the run.
+//! rounds, and the lowest and highest tenth as the spread. A listing that differs stops the run. Then single calls (single.rs).
+
+mod single;
 
 use second_model::listing;
 use std::process::ExitCode;
 use std::time::Instant;
 
 extern "C" {
-    /// Writes the listing of a tape into a buffer and answers its length (crates/vessel_ring).
+    /// Writes the listing of a tape into a buffer and answers its length (include/vessel_ring.h).
     fn vessel_ring_list(tape: *const u8, length: usize, out: *mut u8, room: usize) -> usize;
 }
 
@@ -15,7 +17,8 @@ extern "C" {
 const ROOM: usize = 60_002 * 160;
 
 fn proved(tape: &[u8], out: &mut Vec<u8>) {
-    // The function writes at most `room` bytes from the buffer's beginning, and all that it answers is written.
+    // The function writes at most `room` bytes from the buffer's beginning, and all that it answers is written. (The safe wrapper takes a
+    // slice, so the whole buffer would have to be zeroed first.)
     unsafe {
         let length = vessel_ring_list(tape.as_ptr(), tape.len(), out.as_mut_ptr(), out.capacity());
         out.set_len(length);
@@ -85,6 +88,9 @@ fn main() -> ExitCode {
             eprintln!("{file}: {error}");
             return ExitCode::FAILURE;
         }
+    }
+    for (nodes, channels) in [(1, 1), (1, 63), (4, 16), (16, 1), (16, 64)] {
+        single::measure(nodes, channels, rounds);
     }
     ExitCode::SUCCESS
 }

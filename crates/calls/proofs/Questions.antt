@@ -16,8 +16,8 @@ use Rattle.network.specs.Calls.{Outcome, refused, accepted, unless}
 use Rattle.network.specs.Calls
 use Rattle.network.specs.Layout.{ringLimits, view, soundRing, heldOutcome, callRing, stepIn}
 use Rattle.network.specs.Runs.{Call, hopsLeft, waitingSet, call, after}
-use Rattle.network.proofs.Cases.{by-test}
-use Rattle.network.proofs.Demand.{ring-safe}
+use Rattle.network.proofs.Ground.Splits.{by-test}
+use Rattle.network.proofs.Promises.Demand.{ring-safe}
 
 -- no record is delivered
 abbrev Bare : {S : Type 0} → Outcome S → Type 0

@@ -1,7 +1,5 @@
 // Any ring call on a ring whose cells and records are lent: takes the head by value and answers the head after the call, with the reply.
 use batch::BatchRecord;
-use endpoints::lent::receive;
-use endpoints::lent::send;
 use network::Answer;
 use network::Cells;
 use network::Head;
@@ -14,6 +12,8 @@ use plan::lent::add_node;
 use plan::lent::start;
 use questions::lent::hops_left;
 use questions::lent::waiting_set;
+use tasks::lent::receive;
+use tasks::lent::send;
 use traffic::lent::enter;
 use traffic::lent::move_on;
 ghost use mathlib.Core.Path.{_≡_};

@@ -3,10 +3,10 @@
 pub mod lent;
 
 use batch::BatchRecord;
-use change::answer;
 use network::Ring;
 use network::RingCall;
 use network::Step;
+use updates::answer;
 ghost use mathlib.Core.Path.{_≡_};
 ghost use Rattle.network.specs.Answers.{callOf, stepOf};
 ghost use Rattle.network.specs.Layout.{callRing};

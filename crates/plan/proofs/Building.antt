@@ -14,11 +14,11 @@ use Rattle.network.specs.Calls.{done, refused, accepted}
 use Rattle.network.specs.Calls
 use Rattle.network.specs.Runs
 use Rattle.network.specs.Layout.{ringLimits, nodeRoom, view, callRing}
-use Rattle.network.proofs.Counting.{sum-same, sum-beyond}
-use Rattle.network.proofs.Memory.{SoundRing, sound-ring, no-node}
-use Rattle.network.proofs.Changes.{planned, withHead, hold-with-new-node, hold-with-new-channel, hold-with-started}
-use Rattle.change.specs.Known.{Planned}
-use Rattle.change.proofs.Openings.{sound-called, idle}
+use Rattle.network.proofs.Ground.Counting.{sum-same, sum-beyond}
+use Rattle.network.proofs.Memory.Held.{SoundRing, sound-ring, no-node}
+use Rattle.network.proofs.Memory.Changes.{planned, withHead, hold-with-new-node, hold-with-new-channel, hold-with-started}
+use Rattle.updates.specs.Known.{Planned}
+use Rattle.updates.proofs.Openings.{sound-called, idle}
 
 module _ {ring : Ring} (h : Planned ring) where
   known : SoundRing ring

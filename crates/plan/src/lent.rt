@@ -1,11 +1,6 @@
 // The calls of this crate on a ring whose cells and records are lent: each takes the head by value and answers the head after the call,
 // with the reply. It opens as every call does; then come its own refusals in the order of document 01, and a refusal leaves the ring as it
 // was.
-use change::answer::accept;
-use change::answer::refuse;
-use change::opening::Opening;
-use change::opening::Subject;
-use change::opening::open;
 use network::Cells;
 use network::Head;
 use network::HeadStep;
@@ -14,6 +9,11 @@ use network::Records;
 use network::Ring;
 use refusal::Refusal;
 use soundness;
+use updates::answer::accept;
+use updates::answer::refuse;
+use updates::opening::Opening;
+use updates::opening::Subject;
+use updates::opening::open;
 ghost use mathlib.Core.Path.{_≡_};
 ghost use Rattle.network.specs.Answers.{stepOf};
 ghost use Rattle.network.specs.Layout.{callRing, ringIn, stepIn};

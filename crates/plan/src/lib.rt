@@ -4,10 +4,10 @@
 // call on its parts, which stands in `lent`.
 pub mod lent;
 
-use change::answer;
 use network::NodeNo;
 use network::Ring;
 use network::Step;
+use updates::answer;
 ghost use mathlib.Core.Path.{_≡_};
 ghost use Rattle.network.specs.Answers.{stepOf};
 ghost use Rattle.network.specs.Layout.{callRing};

@@ -24,14 +24,14 @@ use Rattle.network.specs.Calls.{hopsAre, accepted, holder, hopsLeftOf, hopsOf}
 use Rattle.network.specs.Calls
 use Rattle.network.specs.Runs
 use Rattle.network.specs.Layout.{rowLength, cellsOf, view, hold, soundRing, callRing}
-use Rattle.network.proofs.Cases.{by-test, by-same, by-less, by-phase}
-use Rattle.network.proofs.Counting.{weigh-snoc}
-use Rattle.network.proofs.Rows.{getD-padded, getD-row}
-use Rattle.network.proofs.Memory.{SoundRing, sound-ring, HeldNode}
-use Rattle.change.specs.Flat.{usedAt}
-use Rattle.change.specs.Known.{AtChannel}
-use Rattle.change.proofs.Openings.{sound-called}
-use Rattle.change.proofs.Reading.{channel-known, channel-there, channel-numbers, channel-running}
+use Rattle.network.proofs.Ground.Splits.{by-test, by-same, by-less, by-phase}
+use Rattle.network.proofs.Ground.Counting.{weigh-snoc}
+use Rattle.network.proofs.Memory.Rows.{getD-padded, getD-row}
+use Rattle.network.proofs.Memory.Held.{SoundRing, sound-ring, HeldNode}
+use Rattle.updates.specs.Flat.{usedAt}
+use Rattle.updates.specs.Known.{AtChannel}
+use Rattle.updates.proofs.Openings.{sound-called}
+use Rattle.updates.proofs.Reading.{channel-known, channel-there, channel-numbers, channel-running}
 use Rattle.questions.specs.Asked.{Within, standsIn, placeIn, wayIn, hopsIn}
 
 -- what the parts of a question ask, a sound ring has

@@ -18,12 +18,12 @@ use Rattle.network.specs.Calls.{waitingAre, accepted, waitingOf}
 use Rattle.network.specs.Calls
 use Rattle.network.specs.Runs
 use Rattle.network.specs.Layout.{channelRoom, phaseCode, view, callRing}
-use Rattle.network.proofs.Cases.{by-test}
-use Rattle.network.proofs.Counting.{sum-same, one-most}
-use Rattle.network.proofs.Memory.{SoundRing, sound-ring}
-use Rattle.change.specs.Flat.{receiverAt, phaseAt}
-use Rattle.change.specs.Known.{AskedAt}
-use Rattle.change.proofs.Openings.{sound-called}
+use Rattle.network.proofs.Ground.Splits.{by-test}
+use Rattle.network.proofs.Ground.Counting.{sum-same, one-most}
+use Rattle.network.proofs.Memory.Held.{SoundRing, sound-ring}
+use Rattle.updates.specs.Flat.{receiverAt, phaseAt}
+use Rattle.updates.specs.Known.{AskedAt}
+use Rattle.updates.proofs.Openings.{sound-called}
 use Rattle.questions.specs.Asked.{waits, waitsAt, bits, waitingIn}
 
 -- the bits of the channels, by their numbers and as the definitions say

@@ -11,7 +11,7 @@ use Rattle.network.specs.Counting.{one, sum}
 use Rattle.network.specs.Network.{ChannelState}
 use Rattle.network.specs.Sound.{isResting}
 use Rattle.network.specs.Layout.{nodeRoom, channelRoom, rowLength}
-use Rattle.change.specs.Flat.{usedAt, senderAt, receiverAt, phaseAt}
+use Rattle.updates.specs.Flat.{usedAt, senderAt, receiverAt, phaseAt}
 
 -- the counts of the head are within the arrays, and those of its nodes within their rows
 pub record Within (h : Head) : Type 0 where

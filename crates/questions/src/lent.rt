@@ -1,8 +1,5 @@
 // The questions of this crate on a ring whose cells and records are lent. Each opens as every call does, and that
 // makes all its refusals. The answer is read off the head and, for where a message stands, the cells of the buffers.
-use change::opening::Opening;
-use change::opening::Subject;
-use change::opening::open;
 use hops;
 use network::Answer;
 use network::Cells;
@@ -11,6 +8,9 @@ use network::Head;
 use network::NodeNo;
 use network::Records;
 use network::Ring;
+use updates::opening::Opening;
+use updates::opening::Subject;
+use updates::opening::open;
 ghost use mathlib.Core.Path.{_≡_};
 ghost use Prim.Native.Nat.{_+_, _≤_, _<_};
 ghost use Rattle.network.specs.Answers.{replyOf};

@@ -8,13 +8,13 @@ use lib.ListN.{length}
 use Rattle.network.specs.declared.Step.{Step}
 use Rattle.network.specs.Answers.{stepOf}
 use Rattle.network.specs.Calls.{refused}
-use Rattle.network.proofs.Cases.{by-test, by-less}
+use Rattle.network.proofs.Ground.Splits.{by-test, by-less}
 use Rattle.tape.specs.declared.Command.{Command}
 use Rattle.tape.specs.declared.ReadAnswer.{ReadAnswer}
 use Rattle.tape.specs.declared.ReadAnswer.the-variants.{Read, End, Refused}
 use Rattle.tape.specs.Tape.{readAt}
 use Rattle.runner.specs.declared.Session.{Session}
-use Rattle.runner.specs.Calls.{commandStep}
+use Rattle.runner.specs.Commands.{commandStep}
 use Rattle.network.specs.Answers.{isRefusal}
 use Rattle.runner.specs.Session.{longest, beginning, ended, passed, answered, nextIn, next, lines}
 use Rattle.network.specs.Sound.{oneMore}

@@ -13,7 +13,7 @@ use Rattle.refusal.specs.declared.Refusal.{Refusal}
 use Rattle.network.specs.declared.Step.{Step}
 use Rattle.network.specs.Answers.{stepOf}
 use Rattle.network.specs.Calls.{refused}
-use Rattle.network.proofs.Cases.{by-test, by-same, by-less, both-ways}
+use Rattle.network.proofs.Ground.Splits.{by-test, by-same, by-less, both-ways}
 use Rattle.tape.specs.declared.Command.{Command}
 use Rattle.tape.specs.declared.Reading.{Reading}
 use Rattle.tape.specs.declared.ReadAnswer.{ReadAnswer}
@@ -21,9 +21,9 @@ use Rattle.tape.specs.declared.ReadAnswer.the-variants.{Read, End, Refused}
 use Rattle.tape.specs.Shape.{widthOf}
 use Rattle.tape.specs.Table.{Row, rowOf}
 use Rattle.tape.specs.Tape.{readAt, readRow}
-use Rattle.listing.specs.Line.{lineOf, endOf, tooLong}
+use Rattle.report.specs.Line.{lineOf, endOf, tooLong}
 use Rattle.runner.specs.declared.Session.{Session}
-use Rattle.runner.specs.Calls.{commandStep}
+use Rattle.runner.specs.Commands.{commandStep}
 use Rattle.runner.specs.Session.{longest, beginning, ended, lastLine, answered, nextIn, next, lines, afterLines, allLines}
 use Rattle.network.specs.Sound.{oneMore}
 use Rattle.runner.specs.Listing.{byOne, listingOf, toCome, TooLongAlone, NothingAfter, LineByLine, NotCut}

@@ -6,9 +6,9 @@ use native.Mathlib.Omega.{arith}
 use lib.ListN.{length}
 use borrow.Author.Tests.{le-leb}
 use Rattle.wire.specs.Bytes.{overwritten}
-use Rattle.listing.specs.declared.Put.{Put}
-use Rattle.listing.specs.Line.{lineRoom}
-use Rattle.listing.specs.Put.{putAnswer, put}
+use Rattle.report.specs.declared.Put.{Put}
+use Rattle.report.specs.Line.{lineRoom}
+use Rattle.report.specs.Put.{putAnswer, put}
 use Rattle.runner.specs.Run.{Placed, endOfPut}
 
 pub placed : (line : List ℕ) (at : ℕ) (before after : List ℕ) (answer : Put) (end : ℕ) → at + lineRoom ≤ length before

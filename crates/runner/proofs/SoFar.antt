@@ -7,10 +7,10 @@ use mathlib.Core.List.{List, _++_, append-assoc}
 use native.Mathlib.Omega.{arith}
 use lib.ListN.{length, take, drop, length-append}
 use lib.Seq.{take-at, drop-at, drop-drop, length-take-le}
-use Rattle.network.proofs.Cases.{by-same}
+use Rattle.network.proofs.Ground.Splits.{by-same}
 use Rattle.wire.specs.Bytes.{overwritten}
 use Rattle.wire.proofs.Buffer.{length-overwritten}
-use Rattle.listing.specs.Line.{lineRoom}
+use Rattle.report.specs.Line.{lineRoom}
 use Rattle.runner.specs.declared.Session.{Session}
 use Rattle.runner.specs.declared.Progress.{Progress}
 use Rattle.runner.specs.Session.{next, lines, afterLines}

@@ -10,13 +10,13 @@ use Rattle.network.specs.declared.Ring.{Ring}
 use Rattle.network.specs.Layout.{callRing}
 use Rattle.network.specs.Runs.{Call, run}
 use Rattle.network.specs.Sound.{oneMore}
-use Rattle.network.proofs.Demand.{ring-demand3}
+use Rattle.network.proofs.Promises.Demand.{ring-demand3}
 use Rattle.tape.specs.declared.Command.{Command}
 use Rattle.tape.specs.declared.ReadAnswer.{ReadAnswer}
 use Rattle.tape.specs.declared.ReadAnswer.the-variants.{Read, End, Refused}
 use Rattle.tape.specs.Tape.{readAt}
 use Rattle.runner.specs.declared.Session.{Session}
-use Rattle.runner.specs.Calls.{commandStep}
+use Rattle.runner.specs.Commands.{commandStep}
 use Rattle.runner.specs.Session.{longest, beginning, nextIn, next, afterLines}
 use Rattle.runner.specs.TapeRun.{callThen, callsFrom, RunsItsCalls, TooLongCallsNothing, TapeInOrder}
 use Rattle.runner.proofs.Lines.{next-after, next-too-long}

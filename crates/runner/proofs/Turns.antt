@@ -13,12 +13,12 @@ use Rattle.network.specs.Calls
 use Rattle.network.specs.Layout.{ringIn}
 use Rattle.tape.specs.declared.Reading.{Reading}
 use Rattle.tape.specs.declared.ReadAnswer.the-variants.{Read, End, Refused}
-use Rattle.listing.specs.Line.{lineOf, endOf, tooLong}
+use Rattle.report.specs.Line.{lineOf, endOf, tooLong}
 use Rattle.runner.specs.declared.Tally.{Tally}
 use Rattle.runner.specs.declared.Line.{Line}
 use Rattle.runner.specs.declared.Session.{Session}
 use Rattle.runner.specs.declared.Turn.{Turn}
-use Rattle.runner.specs.Calls.{commandStep}
+use Rattle.runner.specs.Commands.{commandStep}
 use Rattle.runner.specs.Session.{longest}
 use Rattle.network.specs.Sound.{oneMore}
 use Rattle.runner.specs.Tally.{sessionOf, Begun, closedTally, countedTally, Told, Went}

@@ -7,7 +7,7 @@ use mathlib.Core.Bool.{true, false}
 use mathlib.Core.List.{List, [], _++_}
 use lib.ListN.{length}
 use Rattle.network.specs.Sound.{oneMore}
-use Rattle.listing.specs.Line.{tooLong}
+use Rattle.report.specs.Line.{tooLong}
 use Rattle.runner.specs.declared.Session.{Session}
 use Rattle.runner.specs.Session.{longest, beginning, next, lines, allLines}
 

@@ -6,9 +6,9 @@ use mathlib.Core.Bool.{true, false}
 use mathlib.Core.List.{List, [], _++_}
 use lib.ListN.{length, take, drop}
 use Rattle.wire.specs.Bytes.{overwritten}
-use Rattle.listing.specs.Line.{lineRoom}
-use Rattle.listing.specs.declared.Put.{Put}
-use Rattle.listing.specs.declared.Put.the-variants.{Written, NoRoom}
+use Rattle.report.specs.Line.{lineRoom}
+use Rattle.report.specs.declared.Put.{Put}
+use Rattle.report.specs.declared.Put.the-variants.{Written, NoRoom}
 use Rattle.runner.specs.declared.Session.{Session}
 use Rattle.runner.specs.declared.Progress.{Progress}
 use Rattle.runner.specs.Session.{Printed, beginning, lines, afterLines}

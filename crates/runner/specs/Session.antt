@@ -14,9 +14,9 @@ use Rattle.tape.specs.declared.Command.{Command}
 use Rattle.tape.specs.declared.ReadAnswer.{ReadAnswer}
 use Rattle.tape.specs.declared.ReadAnswer.the-variants.{Read, End, Refused}
 use Rattle.tape.specs.Tape.{readAt}
-use Rattle.listing.specs.Line.{lineOf, endOf, tooLong}
+use Rattle.report.specs.Line.{lineOf, endOf, tooLong}
 use Rattle.runner.specs.declared.Session.{Session}
-use Rattle.runner.specs.Calls.{commandStep}
+use Rattle.runner.specs.Commands.{commandStep}
 
 -- the longest tape that is run
 abbrev pub longest : ℕ

@@ -13,7 +13,7 @@ use Rattle.tape.specs.declared.ReadAnswer.{ReadAnswer}
 use Rattle.tape.specs.declared.ReadAnswer.the-variants.{Read, End, Refused}
 use Rattle.tape.specs.Tape.{readAt}
 use Rattle.network.specs.Answers.{callOf}
-use Rattle.runner.specs.Calls.{ringCall}
+use Rattle.runner.specs.Commands.{ringCall}
 use Rattle.runner.specs.Session.{longest, beginning, afterLines}
 
 -- the ring calls of the next n lines of a tape from a place on: a command that was read is a call, and what follows it; the end and a

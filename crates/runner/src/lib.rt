@@ -2,7 +2,6 @@
 // whole lines at a time as have room. A session is what is kept between two runs; it may be any value at all, so no run asks anything.
 use batch::BatchRecord;
 use calls::lent;
-use listing::Put;
 use network::Answer;
 use network::Cells;
 use network::ChannelNo;
@@ -13,6 +12,7 @@ use network::Reply;
 use network::Ring;
 use network::RingCall;
 use refusal::Refusal;
+use report::Put;
 use tape::Action;
 use tape::Command;
 use tape::ReadAnswer;
@@ -23,8 +23,8 @@ ghost use Rattle.network.specs.declared.Ring.{Ring};
 ghost use Rattle.network.specs.Answers.{replyOf, isRefusal};
 ghost use Rattle.network.specs.Calls;
 ghost use Rattle.network.specs.Layout.{ringIn};
-ghost use Rattle.listing.specs.Line.{lineRoom, lineOf, endOf, tooLong};
-ghost use Rattle.runner.specs.Calls.{ringCall};
+ghost use Rattle.report.specs.Line.{lineRoom, lineOf, endOf, tooLong};
+ghost use Rattle.runner.specs.Commands.{ringCall};
 ghost use Rattle.runner.specs.Session.{beginning};
 ghost use Rattle.runner.specs.Run.{Ran, Placed, endOfPut};
 ghost use Rattle.runner.specs.Tally.{sessionOf, Begun, closedTally, countedTally, Told, Went};
@@ -148,7 +148,7 @@ fn put_line(out: &mut [u8], at: usize, number: u32, code: u8, reply: Reply) -> u
     requires { ⌜ at + lineRoom ≤ length (now out) ⌝ }
     ensures { λ r. ⌜ Placed (lineOf number code reply) at (now (out .entry)) (now (out .exit)) r ⌝ }
 {
-    let put = listing::write_line(out, at, number, code, reply);
+    let put = report::write_line(out, at, number, code, reply);
     end_of(put, at)
 }
 
@@ -157,7 +157,7 @@ fn put_end(out: &mut [u8], at: usize, accepted: u32, refused: u32) -> usize
     requires { ⌜ at + lineRoom ≤ length (now out) ⌝ }
     ensures { λ r. ⌜ Placed (endOf accepted refused) at (now (out .entry)) (now (out .exit)) r ⌝ }
 {
-    let put = listing::write_end(out, at, accepted, refused);
+    let put = report::write_end(out, at, accepted, refused);
     end_of(put, at)
 }
 
@@ -166,7 +166,7 @@ fn put_too_long(out: &mut [u8], at: usize) -> usize
     requires { ⌜ at + lineRoom ≤ length (now out) ⌝ }
     ensures { λ r. ⌜ Placed tooLong at (now (out .entry)) (now (out .exit)) r ⌝ }
 {
-    let put = listing::write_too_long(out, at);
+    let put = report::write_too_long(out, at);
     end_of(put, at)
 }
 
@@ -322,7 +322,7 @@ pub fn run(tape: &[u8], session: Session, out: &mut [u8]) -> Progress
     let mut carried = ring.carried;
     let mut turn = first(session);
     while !turn.line.tally.over {
-        if out.len() - turn.line.written < listing::LINE_ROOM {
+        if out.len() - turn.line.written < report::LINE_ROOM {
             break;
         }
         turn = next_line(

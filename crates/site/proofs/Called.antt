@@ -24,7 +24,7 @@ use denote.Triple.Spec.{tripleOf}
 use denote.Triple.Clauses.{Ended, Clauses, closing, ensured, lasts}
 use Rattle.network.specs.declared.Ring.{Ring}
 use Rattle.network.proofs.Ring as R
-use Rattle.site.proofs.Machine.{ring-vals}
+use Rattle.site.proofs.Values.{ring-vals}
 use Rattle.site.proofs.Params.{Kind, Values, Placed, slots, kept, words}
 
 module _ (X : RattleType) (ps : List Kind) (F : Ring → Values ps → X .Denot) where

@@ -1,5 +1,5 @@
 pub mod Called
-pub mod Machine
+pub mod Values
 pub mod Params
 pub mod Question
 pub mod Types

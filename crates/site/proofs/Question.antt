@@ -38,7 +38,7 @@ use Rattle.network.specs.declared.Ring.{Ring}
 use Rattle.network.proofs.Ring as R
 use Rattle.network.proofs.Ring.Laws as R′
 use Rattle.site.proofs.Called.{CallOf, calling}
-use Rattle.site.proofs.Machine.{ring-vals, ring-typed, ring-seen}
+use Rattle.site.proofs.Values.{ring-vals, ring-typed, ring-seen}
 use Rattle.site.proofs.Params.{Kind, Values, Placed, nowhere, Blocks, Found, slots, kept, across, spells, tell, words, owns-across, stays, lasts, fit, none-had, beside, go, locals, copies, past, before, found, found-past, alloc-all, pass-all, in-local, reads-from, read-all, free-all}
 
 -- ---- the function. Its locals are the answer, the reference, the parameters and the ring that is passed

@@ -16,7 +16,7 @@ use Rattle.network.proofs.RingCall as K
 use Rattle.network.proofs.RingCall.Laws as K′
 use Rattle.network.proofs.Step as S
 use Rattle.network.proofs.Step.Laws as S′
-use Rattle.site.proofs.Machine.{parts}
+use Rattle.site.proofs.Values.{parts}
 use Rattle.site.proofs.Params.{Kind, struct-kind, enum-kind}
 use Rattle.site.proofs.Walk.{Paired}
 

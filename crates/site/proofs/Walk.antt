@@ -43,7 +43,7 @@ use Rattle.network.specs.declared.Ring.{Ring}
 use Rattle.network.proofs.Ring as R
 use Rattle.network.proofs.Ring.Laws as R′
 use Rattle.site.proofs.Called.{CallOf, calling}
-use Rattle.site.proofs.Machine.{ring-val, ring-vals, IsRing, ring-typed, ring-seen}
+use Rattle.site.proofs.Values.{ring-val, ring-vals, IsRing, ring-typed, ring-seen}
 use Rattle.site.proofs.Params.{Kind, Values, Placed, nowhere, Blocks, Found, slots, kept, across, spells, tell, words, owns-across, stays, lasts, fit, none-had, beside, go, locals, copies, past, filled, before, found, found-past, alloc-all, pass-all, in-local, reads-from, read-all, free-all}
 
 -- a struct of a ring and a value of the kind X

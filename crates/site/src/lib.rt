@@ -8,7 +8,7 @@
 // - to look, `hops_left`, which answers `Hops`, and `waiting_set`, which answers `Waiting`. They only read the ring.
 //
 // Any of them says `Refused` with the first refusal that applies, and then the ring is as it was; an unsound ring is refused by all
-// nine. The same call by value, of `plan`, `endpoints`, `traffic` or `questions`, does the work, and each contract is that call's: what
+// nine. The same call by value, of `plan`, `tasks`, `traffic` or `questions`, does the work, and each contract is that call's: what
 // it returns is the whole ring afterwards and the reply.
 use batch::BatchRecord;
 use network::Answer;
@@ -57,7 +57,7 @@ pub fn receive(ring: &mut Ring, channel: ChannelNo) -> Reply
     ensures { λ r. ⌜ (now (ring .exit) ≡ ringAfter (Runs.receive (channel .0)) (now (ring .entry)))
         × (r ≡ replyTo (Runs.receive (channel .0)) (now (ring .entry))) ⌝ }
 {
-    let s = endpoints::receive(*ring, channel);
+    let s = tasks::receive(*ring, channel);
     *ring = s.ring;
     s.reply
 }
@@ -67,7 +67,7 @@ pub fn send(ring: &mut Ring, channel: ChannelNo, record: BatchRecord) -> Reply
     ensures { λ r. ⌜ (now (ring .exit) ≡ ringAfter (Runs.send (channel .0) «record») (now (ring .entry)))
         × (r ≡ replyTo (Runs.send (channel .0) «record») (now (ring .entry))) ⌝ }
 {
-    let s = endpoints::send(*ring, channel, record);
+    let s = tasks::send(*ring, channel, record);
     *ring = s.ring;
     s.reply
 }

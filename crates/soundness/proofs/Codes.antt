@@ -14,8 +14,8 @@ use Rattle.network.specs.Counting.{one}
 use Rattle.network.specs.Network.{Phase, resting, asking, ready, answering}
 use Rattle.network.specs.Sound.{goodOffer, goodCarried, isResting}
 use Rattle.network.specs.Layout.{padded, phaseCode, phaseOf, offeredFlag, offerOf, offerBytes, carriedBytes}
-use Rattle.network.proofs.Cases.{by-test, by-same, both-ways}
-use Rattle.network.proofs.Memory.{OfferFits, CarriedFits, record-kept}
+use Rattle.network.proofs.Ground.Splits.{by-test, by-same, both-ways}
+use Rattle.network.proofs.Memory.Held.{OfferFits, CarriedFits, record-kept}
 use Rattle.soundness.specs.Fits.{BytesFit}
 
 -- a number in range is read back as it was

@@ -8,7 +8,7 @@ use native.Mathlib.Omega.{arith}
 use lib.Bits.{bitOr, or-add-and, and-le-l, and-le-r}
 use lib.Dec.{eqb, leb, ltb}
 use borrow.Author.Tests.{eqb-true, eq-eqb, leb-true, le-leb, ltb-true, lt-ltb, not-true, not-false}
-use Rattle.network.proofs.Cases.{by-test, both-ways, and-left, and-right, and-both}
+use Rattle.network.proofs.Ground.Splits.{by-test, both-ways, and-left, and-right, and-both}
 use Rattle.soundness.specs.Decides.{Decides}
 use Rattle.soundness.specs.Fits.{Either, Nothing}
 

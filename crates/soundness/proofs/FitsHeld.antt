@@ -9,9 +9,9 @@ use Rattle.wire.specs.Record.{recordLength}
 use Rattle.network.specs.declared.Ring.{Ring}
 use Rattle.network.specs.Network.{Network}
 use Rattle.network.specs.Layout.{nodeRoom, channelRoom, rowLength, cellRoom, recordRoom, row, padded, recordAt, view}
-use Rattle.network.proofs.Cases.{by-less}
-use Rattle.network.proofs.Counting.{one-most}
-use Rattle.network.proofs.Memory.{HeldNode, HeldChannel, Held, no-node, no-channel}
+use Rattle.network.proofs.Ground.Splits.{by-less}
+use Rattle.network.proofs.Ground.Counting.{one-most}
+use Rattle.network.proofs.Memory.Held.{HeldNode, HeldChannel, Held, no-node, no-channel}
 use Rattle.soundness.specs.Fits.{UsedNode, UsedChannel, Nothing, Blank, Fits}
 use Rattle.soundness.proofs.Zeros.{beyond-row}
 use Rattle.soundness.proofs.PlacesMet.{Places, all-met}

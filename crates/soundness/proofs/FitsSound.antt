@@ -10,15 +10,15 @@ use Rattle.network.specs.Counting.{one, count}
 use Rattle.network.specs.Network.{Network, nodeCount, channelCount, node, channel, entryOf, targetOf, timesOn}
 use Rattle.network.specs.Sound.{absent, soundAfter, soundBefore}
 use Rattle.network.specs.Layout.{ringLimits, channelRoom, phaseCode, recordAt, view, soundRing}
-use Rattle.network.proofs.Cases.{and-both}
-use Rattle.network.proofs.Tests.{below-all}
-use Rattle.network.proofs.Counting.{sum-same}
-use Rattle.network.proofs.Clauses.{NodeFacts, ChannelFacts, Facts, facts-sound, BufferFits, LineFits, entry-in, target-in}
-use Rattle.network.proofs.Memory.{is-sound-ring}
+use Rattle.network.proofs.Ground.Splits.{and-both}
+use Rattle.network.proofs.Ground.Tests.{below-all}
+use Rattle.network.proofs.Ground.Counting.{sum-same}
+use Rattle.network.proofs.Lists.Clauses.{NodeFacts, ChannelFacts, Facts, facts-sound, BufferFits, LineFits, entry-in, target-in}
+use Rattle.network.proofs.Memory.Held.{is-sound-ring}
 use Rattle.soundness.specs.Fits.{Fits}
 use Rattle.soundness.specs.RowPass.{inBuffer, inLine}
 use Rattle.soundness.proofs.UsedCells.{queue-below}
-use Rattle.soundness.proofs.Way.{decides-way, StandsBy, Way, ends-below, stands-moving, stands-way}
+use Rattle.soundness.proofs.OnTheWay.{decides-way, StandsBy, Way, ends-below, stands-moving, stands-way}
 use Rattle.soundness.proofs.Codes.{good-if-offered, good-if-carried, code-rests, not-raised, none-offered}
 use Rattle.soundness.proofs.Queues.{queue-occupied}
 use Rattle.soundness.proofs.FitsHeld.{used-node, used-channel, table, node-held, channel-held, held}

@@ -6,7 +6,7 @@ pub mod RecordBytes
 pub mod RowPass
 pub mod UsedCells
 pub mod PlacesMet
-pub mod Way
+pub mod OnTheWay
 pub mod View
 pub mod Codes
 pub mod Queues

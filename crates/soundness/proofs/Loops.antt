@@ -14,7 +14,7 @@ use lib.ListN.{length, getD}
 use borrow.Author.Tests.{eqb-true, eq-eqb}
 use Rattle.batch.proofs.Places.{CountsUp}
 use Rattle.network.specs.Counting.{sum}
-use Rattle.network.proofs.Cases.{by-same}
+use Rattle.network.proofs.Ground.Splits.{by-same}
 use Rattle.soundness.specs.Decides.{Decides}
 use Rattle.soundness.proofs.Decides.{refused, granted}
 

@@ -12,9 +12,9 @@ use lib.ListN.{length, getD, take, set, replicate, length-set}
 use lib.Seq.{getD-set-same, getD-set-other}
 use Rattle.network.specs.Counting.{one, sum, weigh, count}
 use Rattle.network.specs.Layout.{channelRoom, rowLength, row, queueOf}
-use Rattle.network.proofs.Cases.{by-same, by-test, by-option}
-use Rattle.network.proofs.Counting.{count-same, count-other, sum-add}
-use Rattle.network.proofs.Rows.{getD-blanks}
+use Rattle.network.proofs.Ground.Splits.{by-same, by-test, by-option}
+use Rattle.network.proofs.Ground.Counting.{count-same, count-other, sum-add}
+use Rattle.network.proofs.Memory.Rows.{getD-blanks}
 use Rattle.soundness.specs.RowPass.{inBuffer, inLine, fresh, mark, cellsInUse, markRow, markRows, markAll}
 use Rattle.soundness.proofs.RowPass.{Fresh, decides-fresh, mark-fresh, no-table, same-table, row-right, row-wrong, afterBuffers, all-stop, all-more}
 use Rattle.soundness.proofs.UsedCells.{Used, RowUsed}

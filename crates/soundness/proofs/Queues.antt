@@ -9,8 +9,8 @@ use lib.ListN.{length, getD, take, length-map, List·getD-eq-default}
 use lib.Seq.{length-take-le}
 use Rattle.network.specs.Counting.{count, occupied}
 use Rattle.network.specs.Layout.{nodeRoom, rowLength, cellRoom, row, padded, cellsOf, queueOf}
-use Rattle.network.proofs.Cases.{by-less, both-ways}
-use Rattle.network.proofs.Rows.{row-length, getD-padded, padded-front, length-cells, length-padded}
+use Rattle.network.proofs.Ground.Splits.{by-less, both-ways}
+use Rattle.network.proofs.Memory.Rows.{row-length, getD-padded, padded-front, length-cells, length-padded}
 use Rattle.soundness.proofs.UsedCells.{Used, below-used, RowUsed, zero-rest, row-laid}
 use Rattle.soundness.proofs.RowPass.{in-use-most}
 

@@ -13,8 +13,8 @@ use Rattle.wire.specs.Bytes.{Bytes}
 use Rattle.wire.specs.Record.{recordLength, recordBytes, recordIn}
 use Rattle.wire.proofs.Record.{record-writes-back}
 use Rattle.network.specs.Layout.{padded}
-use Rattle.network.proofs.Cases.{and-left, and-right, and-both}
-use Rattle.network.proofs.Rows.{padded-whole}
+use Rattle.network.proofs.Ground.Splits.{and-left, and-right, and-both}
+use Rattle.network.proofs.Memory.Rows.{padded-whole}
 use Rattle.soundness.specs.Decides.{Decides}
 use Rattle.soundness.specs.Fits.{Blank, BytesFit}
 use Rattle.soundness.proofs.Zeros.{blank-padded, padded-blank}

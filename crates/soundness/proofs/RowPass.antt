@@ -12,9 +12,9 @@ use mathlib.Core.Logic.{_≢_}
 use borrow.Author.Tests.{eq-eqb, ne-eqb}
 use lib.ListN.{length, getD, take, drop, set, replicate, length-set}
 use lib.Seq.{drop-cons, drop-length}
-use Rattle.network.proofs.Cases.{by-same, by-test, both-ways}
+use Rattle.network.proofs.Ground.Splits.{by-same, by-test, both-ways}
 use Rattle.network.specs.Layout.{channelRoom, rowLength, row}
-use Rattle.network.proofs.Counting.{sum-le, sum-ones}
+use Rattle.network.proofs.Ground.Counting.{sum-le, sum-ones}
 use Rattle.soundness.specs.Decides.{Decides}
 use Rattle.soundness.specs.RowPass.{inBuffer, inLine, fresh, mark, cellsInUse, markRow, markRows, markAll, Marked}
 use Rattle.soundness.proofs.Decides.{restated, decides-less, decides-most, decides-same, decides-and}

@@ -9,16 +9,16 @@ use Rattle.network.specs.declared.Ring.{Ring}
 use Rattle.network.specs.Counting.{one, count}
 use Rattle.network.specs.Network.{Network, nodeCount, channelCount, node, channel, entryOf, targetOf, timesOn, noNode, moving}
 use Rattle.network.specs.Layout.{nodeRoom, channelRoom, rowLength, row, view}
-use Rattle.network.proofs.Cases.{by-less}
-use Rattle.network.proofs.Counting.{sum-same, one-most, sum-some}
-use Rattle.network.proofs.Clauses.{entry-in, target-in}
-use Rattle.network.proofs.Memory.{no-node, no-channel, SoundRing}
+use Rattle.network.proofs.Ground.Splits.{by-less}
+use Rattle.network.proofs.Ground.Counting.{sum-same, one-most, sum-some}
+use Rattle.network.proofs.Lists.Clauses.{entry-in, target-in}
+use Rattle.network.proofs.Memory.Held.{no-node, no-channel, SoundRing}
 use Rattle.soundness.specs.Fits.{Fits, Stands, UnderWay, MessagesFit}
 use Rattle.soundness.specs.RowPass.{inBuffer, inLine}
 use Rattle.soundness.proofs.Zeros.{rows-beyond}
 use Rattle.soundness.proofs.UsedCells.{RowUsed}
 use Rattle.soundness.proofs.PlacesMet.{Places, timesIn, all-met, all-pass}
-use Rattle.soundness.proofs.Way.{decides-way, ends-below, way-stands}
+use Rattle.soundness.proofs.OnTheWay.{decides-way, ends-below, way-stands}
 use Rattle.soundness.proofs.Queues.{queue-stands}
 use Rattle.soundness.proofs.SoundHead.{counts-fit, start-fits, node-fits, channel-fits, records-fit}
 use Rattle.soundness.proofs.View.{nodes, channels, node-count-of, channel-count-of, node-of}

@@ -12,16 +12,16 @@ use Rattle.network.specs.Counting.{one}
 use Rattle.network.specs.Network.{Network, nodeCount, channelCount, node, channel, noChannel}
 use Rattle.network.specs.Sound.{isResting, absent, soundAfter, soundBefore}
 use Rattle.network.specs.Layout.{nodeRoom, channelRoom, row, phaseCode, offeredFlag, view, holdHead, hold}
-use Rattle.network.proofs.Cases.{by-test, by-less, both-ways}
-use Rattle.network.proofs.Tests.{reads}
-use Rattle.network.proofs.Counting.{one-most}
-use Rattle.network.proofs.Memory.{HeldChannel, no-node, no-channel, SoundRing}
+use Rattle.network.proofs.Ground.Splits.{by-test, by-less, both-ways}
+use Rattle.network.proofs.Ground.Tests.{reads}
+use Rattle.network.proofs.Ground.Counting.{one-most}
+use Rattle.network.proofs.Memory.Held.{HeldChannel, no-node, no-channel, SoundRing}
 use Rattle.soundness.specs.Fits.{NodeFits, ChannelFits, CountsFit, RecordsFit, StartFits}
 use Rattle.soundness.proofs.Zeros.{rows-beyond}
 use Rattle.soundness.proofs.Codes.{code-most, code-ready, flag-most, flag-below, offer-stands, carried-stands}
 use Rattle.soundness.proofs.Queues.{length-occupied}
 use Rattle.soundness.proofs.View.{nodes, channels, begun, node-count-of, channel-count-of, slots-of}
-use Rattle.network.proofs.Joined.{resting-is, absent-is}
+use Rattle.network.proofs.Ground.Joined.{resting-is, absent-is}
 
 -- what a test of two cases says in each
 on-side : (b on off : Bool) → cond b on off ≡ true → b ≡ true → on ≡ true

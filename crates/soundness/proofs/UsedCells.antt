@@ -9,9 +9,9 @@ use lib.ListN.{length, getD, take, List·getD-eq-default}
 use lib.Seq.{getD-take, length-take-le}
 use Rattle.network.specs.Counting.{sum, weigh, count}
 use Rattle.network.specs.Layout.{rowLength, padded, cellsOf, queueOf}
-use Rattle.network.proofs.Cases.{by-same, by-less}
-use Rattle.network.proofs.Counting.{count-same, count-other, sum-same, sum-ones, sum-beyond}
-use Rattle.network.proofs.Rows.{padded-is}
+use Rattle.network.proofs.Ground.Splits.{by-same, by-less}
+use Rattle.network.proofs.Ground.Counting.{count-same, count-other, sum-same, sum-ones, sum-beyond}
+use Rattle.network.proofs.Memory.Rows.{padded-is}
 use Rattle.soundness.specs.RowPass.{cellsInUse}
 
 -- used cells, each with a channel in use

@@ -12,9 +12,9 @@ use Rattle.network.specs.Counting.{sum}
 use Rattle.network.specs.Network.{Network, nodeCount, channelCount, slotCount, noNode, noChannel, node, channel}
 use Rattle.network.specs.Sound.{lastCount}
 use Rattle.network.specs.Layout.{nodeRoom, channelRoom, rowLength, viewNode, viewChannel, view, holdHead, hold}
-use Rattle.network.proofs.Rows.{length-tabulate, getD-tabulate, tabulate-is, rows-is}
-use Rattle.network.proofs.Counting.{sum-same, sum-beyond}
-use Rattle.network.proofs.Memory.{Held, no-node}
+use Rattle.network.proofs.Memory.Rows.{length-tabulate, getD-tabulate, tabulate-is, rows-is}
+use Rattle.network.proofs.Ground.Counting.{sum-same, sum-beyond}
+use Rattle.network.proofs.Memory.Held.{Held, no-node}
 
 -- the counts in the head, and whether the ring has started
 abbrev pub nodes : Ring → ℕ

@@ -7,8 +7,8 @@ use native.Mathlib.Omega.{arith}
 use lib.ListN.{length, getD, take, drop, List·getD-eq-default}
 use lib.Seq.{getD-drop}
 use Rattle.network.specs.Layout.{row, padded}
-use Rattle.network.proofs.Cases.{by-less}
-use Rattle.network.proofs.Rows.{padded-is, padded-none, getD-blanks, row-end, row-length, getD-row}
+use Rattle.network.proofs.Ground.Splits.{by-less}
+use Rattle.network.proofs.Memory.Rows.{padded-is, padded-none, getD-blanks, row-end, row-length, getD-row}
 use Rattle.soundness.specs.Fits.{Blank}
 
 -- the part of the cells that is lent as row p

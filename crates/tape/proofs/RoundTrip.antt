@@ -31,7 +31,7 @@ use Rattle.wire.proofs.Buffer.{length-overwritten, drop-overwritten, put-same}
 use Rattle.wire.proofs.Bytes.{bytes-drop}
 use Rattle.tape.proofs.Cases.{by-row, row-found}
 use Rattle.tape.proofs.Shapes.{record-once, code-read}
-use Rattle.tape.proofs.Rows.{some-bytes, code-byte, length-bytesOf, command-read, row-own, row-written}
+use Rattle.tape.proofs.CommandTable.{some-bytes, code-byte, length-bytesOf, command-read, row-own, row-written}
 
 -- ---- what an answer tells of the tests on the way to it
 

@@ -2,7 +2,7 @@
 -- operands make. The inverse, the command byte and the operands of an action, is given once beside it. Assumes nothing.
 --
 -- What a new command of a known shape costs: here its row and its line of `partsOf`; in the code the variant of `Action` and a line each of
--- `row_of` and `parts_of`; in proofs/, where all is computed, a line each in `row_of`, `parts_of` and `made` (Rows.antt).
+-- `row_of` and `parts_of`; in proofs/, where all is computed, a line each in `row_of`, `parts_of` and `made` (CommandTable.antt).
 use Prim.Native.Nat.{ℕ}
 use mathlib.Core.Path.{_≡_}
 use mathlib.Core.Bool.{cond}

@@ -13,12 +13,12 @@ use Rattle.network.specs.Calls.{done, refused, accepted, enterFirst}
 use Rattle.network.specs.Calls
 use Rattle.network.specs.Runs
 use Rattle.network.specs.Layout.{rowLength, cellRoom, view, heldOutcome, callRing}
-use Rattle.network.proofs.Cases.{by-list}
-use Rattle.change.specs.Flat.{capacityAt, usedAt, waitingAt, entered}
-use Rattle.change.specs.Known.{AtNode}
-use Rattle.change.proofs.Openings.{sound-called}
-use Rattle.change.proofs.FlatLaws.{entered-held}
-use Rattle.change.proofs.Reading.{node-known, node-there, node-within, node-numbers, node-running, slots-within, empty-length}
+use Rattle.network.proofs.Ground.Splits.{by-list}
+use Rattle.updates.specs.Flat.{capacityAt, usedAt, waitingAt, entered}
+use Rattle.updates.specs.Known.{AtNode}
+use Rattle.updates.proofs.Openings.{sound-called}
+use Rattle.updates.proofs.FlatLaws.{entered-held}
+use Rattle.updates.proofs.Reading.{node-known, node-there, node-within, node-numbers, node-running, slots-within, empty-length}
 
 module _ {ring : Ring} {p : ℕ} (h : AtNode ring p) where
   abbrev σ : Network

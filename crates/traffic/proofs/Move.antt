@@ -27,20 +27,20 @@ use Rattle.network.specs.Calls
 use Rattle.network.specs.Runs
 use Rattle.network.specs.Layout.{ringLimits, nodeRoom, channelRoom, rowLength, cellRoom, row, padded, cellsOf, phaseCode, offeredFlag, offerBytes, carriedBytes, recordAt, view, hold, heldOutcome, callRing, withNodes, withDeliveries, stepIn}
 use Rattle.network.specs.Sound.{oneMore}
-use Rattle.network.proofs.Cases.{by-list, by-phase, by-same, both-ways}
-use Rattle.network.proofs.Counting.{count-same, weigh-cons}
-use Rattle.network.proofs.Tables.{netOf, stateOf}
-use Rattle.network.proofs.Clauses.{sound-started}
-use Rattle.network.proofs.Accepted.{first-moving}
-use Rattle.network.proofs.Memory.{Fits, OfferFits, CarriedFits, HeldNode, HeldChannel, SoundRing, record-kept, held-node}
-use Rattle.network.proofs.Changes.{fits-with-node, fits-with-channel}
-use Rattle.change.specs.Flat.{appended, cutAt, recorded, capacityAt, usedAt, waitingAt, markAt, phaseAt, offeredAt, senderAt, receiverAt, targetBy, markAfter, leftHead, phasedHead, offeredHead, left, passed, phased, withdrawn, responded, handedOut}
-use Rattle.change.specs.Answered.{doneStep}
-use Rattle.change.specs.Known.{CanRespond, Responded, AtNode, Leaves, Takes, Delivers, Passes}
-use Rattle.change.proofs.Openings.{sound-called, accepts, accepted-fits, marked, unmarked}
-use Rattle.change.proofs.FlatLaws.{first-cell, left-held, passed-held, phased-held, withdrawn-held, handed-out-held}
-use Rattle.change.proofs.Messages.{Answerable, can-respond, responded-held, response-made}
-use Rattle.change.proofs.Reading.{node-known, node-there, node-within, node-numbers, node-running, empty-length, asking-code, none-flag}
+use Rattle.network.proofs.Ground.Splits.{by-list, by-phase, by-same, both-ways}
+use Rattle.network.proofs.Ground.Counting.{count-same, weigh-cons}
+use Rattle.network.proofs.Lists.Tables.{netOf, stateOf}
+use Rattle.network.proofs.Lists.Clauses.{sound-started}
+use Rattle.network.proofs.Lists.Accepted.{first-moving}
+use Rattle.network.proofs.Memory.Held.{Fits, OfferFits, CarriedFits, HeldNode, HeldChannel, SoundRing, record-kept, held-node}
+use Rattle.network.proofs.Memory.Changes.{fits-with-node, fits-with-channel}
+use Rattle.updates.specs.Flat.{appended, cutAt, recorded, capacityAt, usedAt, waitingAt, markAt, phaseAt, offeredAt, senderAt, receiverAt, targetBy, markAfter, leftHead, phasedHead, offeredHead, left, passed, phased, withdrawn, responded, handedOut}
+use Rattle.updates.specs.Answered.{doneStep}
+use Rattle.updates.specs.Known.{CanRespond, Responded, AtNode, Leaves, Takes, Delivers, Passes}
+use Rattle.updates.proofs.Openings.{sound-called, accepts, accepted-fits, marked, unmarked}
+use Rattle.updates.proofs.FlatLaws.{first-cell, left-held, passed-held, phased-held, withdrawn-held, handed-out-held}
+use Rattle.updates.proofs.Messages.{Answerable, can-respond, responded-held, response-made}
+use Rattle.updates.proofs.Reading.{node-known, node-there, node-within, node-numbers, node-running, empty-length, asking-code, none-flag}
 
 module _ {ring : Ring} {p : ℕ} (h : AtNode ring p) where
   called : Calls.move p (view ring) ≡ moveFirst p (node (view ring) p .buffer) (view ring)

@@ -1,11 +1,6 @@
 // The calls of this crate on a ring whose cells and records are lent: each takes the head by value and answers the head after the call,
 // with the reply. It opens as every call does; then come its own refusals in the order of document 01, and a refusal leaves the ring as it
 // was.
-use change::answer::accept;
-use change::answer::refuse;
-use change::opening::Opening;
-use change::opening::Subject;
-use change::opening::open;
 use network::Answer;
 use network::Cells;
 use network::ChannelNo;
@@ -16,14 +11,19 @@ use network::Records;
 use network::Reply;
 use network::Ring;
 use refusal::Refusal;
+use updates::answer::accept;
+use updates::answer::refuse;
+use updates::opening::Opening;
+use updates::opening::Subject;
+use updates::opening::open;
 ghost use mathlib.Core.Path.{_≡_};
 ghost use Prim.Native.Nat.{_<_, _+_};
 ghost use Rattle.hops.specs.Hops.{next};
 ghost use Rattle.network.specs.Answers.{stepOf};
 ghost use Rattle.network.specs.Layout.{callRing, ringIn, stepIn};
 ghost use Rattle.network.specs.Runs;
-ghost use Rattle.change.specs.Flat.{markAfter, targetBy};
-ghost use Rattle.change.specs.Known.{AtNode, Takes, Delivers, Passes};
+ghost use Rattle.updates.specs.Flat.{markAfter, targetBy};
+ghost use Rattle.updates.specs.Known.{AtNode, Takes, Delivers, Passes};
 
 // The first of the node's line goes to the end of its buffer, and the turn mark is cleared.
 pub fn enter(
@@ -72,8 +72,8 @@ pub fn enter_at(
         return refuse(head, Refusal::NoFreeSlot);
     }
     let first = lines[network::ROW * p];
-    change::put(slots, p, used, first);
-    change::cut(lines, p, 0);
+    updates::put(slots, p, used, first);
+    updates::cut(lines, p, 0);
     head.used[p] = used + 1;
     head.waiting[p] = waiting - 1;
     head.marks[p] = 0;
@@ -179,15 +179,15 @@ fn take(
 {
     let channel = cell - 1;
     let k = channel as usize;
-    let mut left = change::leave(head, slots, p as usize);
+    let mut left = updates::leave(head, slots, p as usize);
     if left.offered[k] == 0 {
         left.phases[k] = Ring::READY;
         return accept(left);
     }
-    let record = change::record_of(offers, k);
-    change::clear_record(offers, k);
+    let record = updates::record_of(offers, k);
+    updates::clear_record(offers, k);
     left.offered[k] = 0;
-    let answering = change::respond(left, lines, carried, channel, record);
+    let answering = updates::respond(left, lines, carried, channel, record);
     accept(answering)
 }
 
@@ -209,9 +209,9 @@ fn deliver(
 {
     let channel = cell - 1;
     let k = channel as usize;
-    let mut left = change::leave(head, slots, p as usize);
-    let record = change::record_of(carried, k);
-    change::clear_record(carried, k);
+    let mut left = updates::leave(head, slots, p as usize);
+    let record = updates::record_of(carried, k);
+    updates::clear_record(carried, k);
     left.phases[k] = Ring::RESTING;
     left.deliveries = network::one_more(left.deliveries);
     let reply = Reply {
@@ -245,10 +245,10 @@ fn pass(
     if head.marks[q] != 0 {
         return refuse(head, Refusal::TurnMarkSet);
     }
-    let mut left = change::leave(head, slots, p as usize);
+    let mut left = updates::leave(head, slots, p as usize);
     // Read after the message left: on a ring of one node the next node is this one.
     let used = left.used[q];
-    change::put(slots, q, used, cell);
+    updates::put(slots, q, used, cell);
     left.used[q] = used + 1;
     left.marks[q] = mark_after(left.waiting[q], left.marks[q]);
     accept(left)

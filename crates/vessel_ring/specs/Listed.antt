@@ -3,7 +3,7 @@ use Prim.Native.Nat.{ℕ, _+_, _<_, _≤_}
 use mathlib.Core.Path.{_≡_}
 use mathlib.Core.List.{List, [], _++_}
 use lib.ListN.{length, take, drop}
-use Rattle.listing.specs.Line.{lineRoom}
+use Rattle.report.specs.Line.{lineRoom}
 use Rattle.runner.specs.Listing.{listingOf}
 
 -- The first `written` bytes of the buffer begin the listing, `left` is what had no room, and the rest of the buffer is as it was. Nothing

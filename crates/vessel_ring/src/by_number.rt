@@ -1,17 +1,20 @@
 // The nine ring calls with plain numbers in and out, on a ring by value: what lib.rt exports lends a ring to these. Each makes the call by
-// value of `plan`, `endpoints`, `traffic` or `questions` and tells its answer in numbers.
+// its name (`calls`), or asks its question (`questions`), and tells the answer in numbers.
 use crate::Delivery;
 use crate::HopsLeft;
 use crate::Record;
 use crate::Waiting;
 use crate::records::record_for;
 use crate::records::record_of;
+use batch::BatchRecord;
 use network::Answer;
 use network::ChannelNo;
 use network::NodeNo;
 use network::Ring;
+use network::RingCall;
 use network::Step;
 ghost use mathlib.Core.Path.{_≡_};
+ghost use Rattle.network.specs.Answers.{callOf};
 ghost use Rattle.network.specs.Counting.{one};
 ghost use Rattle.network.specs.Layout.{soundRing};
 ghost use Rattle.network.specs.Runs;
@@ -92,46 +95,62 @@ fn delivery_in(s: Step) -> Moved
     Moved { ring, delivery }
 }
 
+// Any call of which C is told no more than the refusal; the record is that of a send.
+fn make(ring: Ring, call: RingCall, record: BatchRecord) -> Told
+    ensures { λ r. ⌜ r ≡ toldOf (stepTo (callOf call «record») ring) ⌝ }
+{
+    in_numbers(calls::perform(ring, call, record))
+}
+
 pub fn add_node(ring: Ring, slots: u8) -> Told
     ensures { λ r. ⌜ r ≡ toldOf (stepTo (Runs.addNode slots) ring) ⌝ }
 {
-    in_numbers(plan::add_node(ring, slots))
+    make(ring, RingCall::AddNode(slots), BatchRecord::none())
 }
 
 pub fn add_channel(ring: Ring, sender: u8, receiver: u8) -> Told
     ensures { λ r. ⌜ r ≡ toldOf (stepTo (Runs.addChannel sender receiver) ring) ⌝ }
 {
-    in_numbers(plan::add_channel(ring, NodeNo(sender), NodeNo(receiver)))
+    make(
+        ring,
+        RingCall::AddChannel(NodeNo(sender), NodeNo(receiver)),
+        BatchRecord::none(),
+    )
 }
 
 pub fn start(ring: Ring) -> Told
     ensures { λ r. ⌜ r ≡ toldOf (stepTo Runs.start ring) ⌝ }
 {
-    in_numbers(plan::start(ring))
+    make(ring, RingCall::Start, BatchRecord::none())
 }
 
 pub fn receive(ring: Ring, channel: u8) -> Told
     ensures { λ r. ⌜ r ≡ toldOf (stepTo (Runs.receive channel) ring) ⌝ }
 {
-    in_numbers(endpoints::receive(ring, ChannelNo(channel)))
+    make(
+        ring,
+        RingCall::Receive(ChannelNo(channel)),
+        BatchRecord::none(),
+    )
 }
 
 pub fn send(ring: Ring, channel: u8, record: Record) -> Told
     ensures { λ r. ⌜ r ≡ toldOf (stepTo (Runs.send channel (recordOf «record»)) ring) ⌝ }
 {
-    in_numbers(endpoints::send(ring, ChannelNo(channel), record_of(record)))
+    make(ring, RingCall::Send(ChannelNo(channel)), record_of(record))
 }
 
 pub fn enter(ring: Ring, node: u8) -> Told
     ensures { λ r. ⌜ r ≡ toldOf (stepTo (Runs.enter node) ring) ⌝ }
 {
-    in_numbers(traffic::enter(ring, NodeNo(node)))
+    make(ring, RingCall::Enter(NodeNo(node)), BatchRecord::none())
 }
 
 pub fn move_on(ring: Ring, node: u8) -> Moved
     ensures { λ r. ⌜ r ≡ movedOf (stepTo (Runs.move node) ring) ⌝ }
 {
-    delivery_in(traffic::move_on(ring, NodeNo(node)))
+    let made = calls::perform(ring, RingCall::Move(NodeNo(node)), BatchRecord::none());
+    delivery_in(made)
 }
 
 pub fn hops_left(ring: Ring, channel: u8) -> HopsLeft

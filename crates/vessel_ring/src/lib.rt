@@ -5,13 +5,13 @@
 //
 // One more call on the ring takes
 //
-// - its function in `by_number`, which makes the call by value and tells its answer in numbers, with a proof of one line;
+// - its function in `by_number`, which makes the call by its name; where C is told no more than the refusal it needs no proof;
 // - the exported function here, three lines and its contract, with a proof that names the two functions, the operands and the call
 //   (`proofs/InPlace.antt` has the argument); a question is one line, by `Question.antt` of `site`;
 // - where its answer has a value that no other has, a field of `Said` and of the struct that it answers;
 // - its prototype in the header, and its arm in tests/calls.
 //
-// One more command of the tape takes an arm in `command_of` and in `action_of` of `commands`, with theirs in specs/Commands.antt.
+// One more command of the tape takes nothing here: `commands` reads the tape's own table.
 mod by_number;
 mod commands;
 mod records;
@@ -203,7 +203,7 @@ pub extern "C" fn vessel_tape_write(bytes: &mut [u8], place: usize, command: Com
 }
 
 // Runs a tape from a fresh ring and writes its listing from the beginning of `out`, as many whole lines as have room. Answers how many
-// bytes were written: all of the listing where `out` has room for one line (`listing::LINE_ROOM`) more than that.
+// bytes were written: all of the listing where `out` has room for one line (`report::LINE_ROOM`) more than that.
 #[no_mangle]
 pub extern "C" fn vessel_ring_list(tape: &[u8], out: &mut [u8]) -> usize
     ensures { λ r. ⌜ Listed (now (tape .entry)) (now (out .entry)) (now (out .exit)) r ⌝ }

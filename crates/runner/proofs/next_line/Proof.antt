@@ -10,7 +10,7 @@ use Rattle.network.specs.declared.Step.{Step}
 use Rattle.network.specs.Answers.{callOf, stepOf}
 use Rattle.network.specs.Layout.{ringIn, stepIn, callRing}
 use Rattle.runner.specs.declared.Line.{Line}
-use Rattle.runner.specs.Calls.{commandStep}
+use Rattle.runner.specs.Commands.{commandStep}
 use Rattle.runner.specs.Tally.{sessionOf}
 use Rattle.runner.proofs.Lines.{Reads}
 use Rattle.runner.proofs.Turns as turns

@@ -8,7 +8,7 @@ use borrow.Author.Needs.{needs}
 use borrow.Author.Tests.{not-true, not-false}
 use lib.ListN.{length}
 use Rattle.network.specs.Layout.{ringIn}
-use Rattle.network.proofs.Cases.{both-ways}
+use Rattle.network.proofs.Ground.Splits.{both-ways}
 use Rattle.runner.specs.Listing.{toCome}
 use Rattle.runner.specs.Tally.{sessionOf}
 use Rattle.runner.proofs.SoFar.{SoFar, begun, went-on, shorter, ran}

@@ -4,8 +4,8 @@ use mathlib.Core.Bool.{Bool, false}
 use borrow.Author.Needs.{needs}
 use Rattle.network.specs.declared.Ring.{Ring}
 use Rattle.network.specs.Layout.{soundRing, ringIn}
-use Rattle.network.proofs.Cases.{both-ways}
-use Rattle.network.proofs.Memory.{sound-ring}
+use Rattle.network.proofs.Ground.Splits.{both-ways}
+use Rattle.network.proofs.Memory.Held.{sound-ring}
 use Rattle.soundness.specs.Fits.{CountsFit, Fits}
 use Rattle.soundness.specs.Decides.{Decides}
 use Rattle.soundness.proofs.Decides.{same-test, refused, granted, restated}

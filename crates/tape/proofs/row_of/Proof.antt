@@ -1,7 +1,7 @@
 -- `tape::row_of` meets its contract: each line of the match is the row of its command byte, computed. Assumes nothing.
 use borrow.Author.Needs.{needs}
 use Rattle.tape.specs.Table.{rowOf, find, commands}
-use Rattle.tape.proofs.Rows.{unknown}
+use Rattle.tape.proofs.CommandTable.{unknown}
 use Rattle.tape.proofs.row_of.Statement.{statement}
 use Rattle.tape.proofs.row_of.Tie as tie
 

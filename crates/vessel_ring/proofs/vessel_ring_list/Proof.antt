@@ -7,8 +7,8 @@ use mathlib.Core.List.{List, [], _++_, append-nil}
 use native.Mathlib.Omega.{arith}
 use lib.ListN.{length, take, length-append, length-take}
 use borrow.Author.Needs.{needs}
-use Rattle.listing.specs.Line.{lineRoom}
-use Rattle.network.proofs.Cases.{by-test}
+use Rattle.report.specs.Line.{lineRoom}
+use Rattle.network.proofs.Ground.Splits.{by-test}
 use Rattle.runner.specs.declared.Session.{Session}
 use Rattle.runner.specs.Listing.{toCome, listingOf}
 use Rattle.runner.proofs.Counts.{from-the-beginning}

@@ -3,8 +3,8 @@ use borrow.Author.Needs.{needs}
 use Rattle.network.specs.declared.Ring.{Ring}
 use Rattle.network.specs.Runs
 use Rattle.network.specs.Layout.{ringIn}
-use Rattle.change.specs.Known.{Planned}
-use Rattle.change.proofs.Openings.{turns-away, plan-open, refuses, accepts}
+use Rattle.updates.specs.Known.{Planned}
+use Rattle.updates.proofs.Openings.{turns-away, plan-open, refuses, accepts}
 use Rattle.plan.proofs.Building.{add-channel-full, add-channel-no-sender, add-channel-no-receiver, add-channel-done}
 use Rattle.plan.proofs.lent.add_channel.Statement.{statement}
 use Rattle.plan.proofs.lent.add_channel.Tie as tie

@@ -3,8 +3,8 @@ use borrow.Author.Needs.{needs}
 use Rattle.network.specs.declared.Ring.{Ring}
 use Rattle.network.specs.Runs
 use Rattle.network.specs.Layout.{ringIn}
-use Rattle.change.specs.Known.{Planned}
-use Rattle.change.proofs.Openings.{turns-away, plan-open, refuses, accepts}
+use Rattle.updates.specs.Known.{Planned}
+use Rattle.updates.proofs.Openings.{turns-away, plan-open, refuses, accepts}
 use Rattle.plan.proofs.Building.{add-node-full, add-node-none, add-node-many, add-node-done}
 use Rattle.plan.proofs.lent.add_node.Statement.{statement}
 use Rattle.plan.proofs.lent.add_node.Tie as tie

@@ -5,9 +5,9 @@ use Rattle.network.specs.declared.Answer.the-variants.{Hops}
 use Rattle.network.specs.declared.Ring.{Ring}
 use Rattle.network.specs.Runs
 use Rattle.network.specs.Layout.{ringIn}
-use Rattle.change.specs.Known.{AtChannel}
-use Rattle.change.proofs.Openings.{opening-refused, channel-open, replies}
-use Rattle.change.proofs.Reading.{channel-within}
+use Rattle.updates.specs.Known.{AtChannel}
+use Rattle.updates.proofs.Openings.{opening-refused, channel-open, replies}
+use Rattle.updates.proofs.Reading.{channel-within}
 use Rattle.questions.proofs.Standing.{sound-within, hops-answered}
 use Rattle.questions.proofs.lent.hops_left.Statement.{statement}
 use Rattle.questions.proofs.lent.hops_left.Tie as tie

@@ -5,8 +5,8 @@ use Rattle.network.specs.declared.Answer.the-variants.{Waiting}
 use Rattle.network.specs.declared.Ring.{Ring}
 use Rattle.network.specs.Runs
 use Rattle.network.specs.Layout.{ringIn}
-use Rattle.change.specs.Known.{AskedAt}
-use Rattle.change.proofs.Openings.{opening-refused, tasks-open, replies}
+use Rattle.updates.specs.Known.{AskedAt}
+use Rattle.updates.proofs.Openings.{opening-refused, tasks-open, replies}
 use Rattle.questions.proofs.Standing.{sound-within}
 use Rattle.questions.proofs.Waiting.{waiting-answered}
 use Rattle.questions.proofs.lent.waiting_set.Statement.{statement}

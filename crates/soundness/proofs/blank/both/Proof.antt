@@ -4,7 +4,7 @@ use mathlib.Core.Path.{_≡_, refl}
 use mathlib.Core.List.{List}
 use native.Mathlib.Omega.{arith}
 use lib.ListN.{length, getD, List·getD-eq-default}
-use Rattle.network.proofs.Cases.{by-less}
+use Rattle.network.proofs.Ground.Splits.{by-less}
 use Rattle.soundness.specs.Fits.{Blank}
 use Rattle.soundness.proofs.Decides.{restated, or-zero}
 use Rattle.soundness.proofs.Loops.{Judging, judging-start, judging-turn, judging-end}

@@ -6,12 +6,12 @@ use mathlib.Core.Logic.{_≢_, ⊎-elim}
 use native.Mathlib.Omega.{arith}
 use lib.Dec.{eqb}
 use borrow.Author.Needs.{needs}
-use Rattle.network.proofs.Cases.{by-same}
+use Rattle.network.proofs.Ground.Splits.{by-same}
 use Rattle.soundness.specs.Decides.{Decides}
 use Rattle.soundness.specs.RowPass.{inBuffer, inLine}
 use Rattle.soundness.specs.Fits.{UnderWay, Stands}
 use Rattle.soundness.proofs.Decides.{says-no, restated, decides-same}
-use Rattle.soundness.proofs.Way.{stands-nowhere, stands-asking, stands-answering}
+use Rattle.soundness.proofs.OnTheWay.{stands-nowhere, stands-asking, stands-answering}
 use Rattle.soundness.proofs.messages.stands_right.Statement.{statement}
 use Rattle.soundness.proofs.messages.stands_right.Tie as tie
 

@@ -6,7 +6,7 @@ use lib.Dec.{eqb}
 use lib.ListN.{getD}
 use Rattle.wire.specs.Record.{recordLength}
 use Rattle.network.specs.Layout.{row}
-use Rattle.network.proofs.Rows.{row-length}
+use Rattle.network.proofs.Memory.Rows.{row-length}
 use Rattle.soundness.specs.Fits.{BytesFit}
 use Rattle.soundness.proofs.Loops.{Counting, counting-start, counting-turn, counting-end}
 use Rattle.soundness.proofs.Zeros.{part-is-row}

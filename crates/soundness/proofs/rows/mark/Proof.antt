@@ -7,7 +7,7 @@ use lib.ListN.{length}
 use borrow.Author.Tests.{not-true, not-false}
 use borrow.Author.Needs.{needs}
 use Rattle.network.specs.Layout.{channelRoom, rowLength}
-use Rattle.network.proofs.Rows.{row-length}
+use Rattle.network.proofs.Memory.Rows.{row-length}
 use Rattle.soundness.specs.RowPass.{markRows, Marked}
 use Rattle.soundness.proofs.RowPass.{says-passed, says-stopped, rowAfter, rows-start, rows-more, rows-stop}
 use Rattle.soundness.proofs.Zeros.{part-is-row}

@@ -1,7 +1,7 @@
 -- `traffic::lent::enter` meets its contract: a refused opening is the call's refusal, and an open one is what `enter_at` asks. Assumes nothing.
 use borrow.Author.Needs.{needs}
 use Rattle.network.specs.Runs
-use Rattle.change.proofs.Openings.{turns-away, node-open}
+use Rattle.updates.proofs.Openings.{turns-away, node-open}
 use Rattle.traffic.proofs.lent.enter.Statement.{statement}
 use Rattle.traffic.proofs.lent.enter.Tie as tie
 

@@ -1,8 +1,8 @@
 -- `traffic::lent::enter_at` meets its contract: each return carries what the tests showed to the law of its case. Assumes nothing.
 use native.Mathlib.Omega.{arith}
 use borrow.Author.Needs.{needs}
-use Rattle.change.proofs.Openings.{refuses, accepts}
-use Rattle.change.proofs.Reading.{node-known, node-within}
+use Rattle.updates.proofs.Openings.{refuses, accepts}
+use Rattle.updates.proofs.Reading.{node-known, node-within}
 use Rattle.traffic.proofs.Entries.{enter-empty, enter-full, row-within, enter-room, enter-done}
 use Rattle.traffic.proofs.lent.enter_at.Statement.{statement}
 use Rattle.traffic.proofs.lent.enter_at.Tie as tie

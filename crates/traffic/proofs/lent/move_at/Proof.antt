@@ -8,10 +8,10 @@ use borrow.Author.Tests.{eq-eqb, ne-eqb}
 use Rattle.hops.specs.Hops.{next}
 use Rattle.network.specs.declared.Ring.{Ring}
 use Rattle.network.specs.Layout.{rowLength, ringIn}
-use Rattle.change.specs.Flat.{phaseAt, senderAt, receiverAt, targetBy}
-use Rattle.change.specs.Known.{Leaves}
-use Rattle.change.proofs.Openings.{refuses}
-use Rattle.change.proofs.Reading.{node-within}
+use Rattle.updates.specs.Flat.{phaseAt, senderAt, receiverAt, targetBy}
+use Rattle.updates.specs.Known.{Leaves}
+use Rattle.updates.proofs.Openings.{refuses}
+use Rattle.updates.proofs.Reading.{node-within}
 use Rattle.traffic.proofs.Move.{move-empty, first-within, cell-used, cell-within}
 use Rattle.traffic.proofs.lent.move_at.Statement.{statement}
 use Rattle.traffic.proofs.lent.move_at.Tie as tie

@@ -3,8 +3,8 @@ use Prim.Native.Nat.{_<_}
 use native.Mathlib.Omega.{arith}
 use borrow.Author.Needs.{needs}
 use Rattle.network.specs.Layout.{rowLength}
-use Rattle.change.specs.Flat.{usedAt}
-use Rattle.change.proofs.Openings.{refuses}
+use Rattle.updates.specs.Flat.{usedAt}
+use Rattle.updates.proofs.Openings.{refuses}
 use Rattle.traffic.proofs.Move.{leave-room, slots-whole, pass-within, pass-full, pass-marked, passing-room, passing-made}
 use Rattle.traffic.proofs.lent.pass.Statement.{statement}
 use Rattle.traffic.proofs.lent.pass.Tie as tie

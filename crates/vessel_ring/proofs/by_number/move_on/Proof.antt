@@ -1,4 +1,4 @@
--- `by_number::move_on` meets its contract: it tells in numbers what `traffic::move_on` answers. Assumes nothing.
+-- `by_number::move_on` meets its contract: it tells in numbers what `calls::perform` answers to a move. Assumes nothing.
 use mathlib.Core.Path.{_∙_, ap}
 use borrow.Author.Needs.{needs}
 use Rattle.vessel_ring.specs.Answers.{movedOf}
@@ -7,4 +7,6 @@ use Rattle.vessel_ring.proofs.by_number.move_on.Tie as tie
 
 pub move-on-spec : {M : Type 1} → statement M
 move-on-spec =
-    tie.close (tie.spec (λ c κs. search needs) (λ c κs. search needs) (λ c. c .delivery-in .ensures ∙ ap movedOf (c .before .move-on .ensures)))
+    tie.close (tie.spec
+    (λ c κs. search needs) (λ c κs. search needs) (λ c κs. search needs)
+    (λ c. c .delivery-in .ensures ∙ ap movedOf (c .before .perform .ensures)))

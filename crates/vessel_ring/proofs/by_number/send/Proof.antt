@@ -1,5 +1,4 @@
--- `by_number::send` meets its contract: it tells in numbers what `endpoints::send` answers to the record in the ring's form. Assumes
--- nothing.
+-- `by_number::send` meets its contract: the call is made with the record in the ring's form. Assumes nothing.
 use mathlib.Core.Path.{_∙_, ap}
 use borrow.Author.Needs.{needs}
 use Rattle.batch.specs.declared.BatchRecord.{BatchRecord}
@@ -11,9 +10,9 @@ use Rattle.vessel_ring.proofs.by_number.send.Tie as tie
 
 returns : tie.Need-returns
 returns c =
-    let args = c .before .before .before .args in
-    c .in-numbers .ensures ∙ ap toldOf (c .before .send .ensures
-    ∙ ap (λ (x : BatchRecord). stepTo (Runs.send (args .channel) x) (args .ring)) (c .before .before .record-of .ensures))
+    let args = c .before .before .args in
+    c .make .ensures
+    ∙ ap (λ (x : BatchRecord). toldOf (stepTo (Runs.send (args .channel) x) (args .ring))) (c .before .record-of .ensures)
 
 pub send-spec : {M : Type 1} → statement M
-send-spec = tie.close (tie.spec (λ c κs. search needs) (λ c κs. search needs) (λ c κs. search needs) returns)
+send-spec = tie.close (tie.spec (λ c κs. search needs) (λ c κs. search needs) returns)

@@ -1,7 +1,0 @@
--- The laws that the proofs of the calls share.
-pub mod Rows
-pub mod Records
-pub mod FlatLaws
-pub mod Openings
-pub mod Messages
-pub mod Reading

@@ -1,0 +1,8 @@
+-- Lists: the ring of specs/, whose nodes and channels are lists; the test for a sound ring as facts, and each call as a step of the theory.
+pub mod Way
+pub mod Tables
+pub mod Clauses
+pub mod Outcomes
+pub mod Accepted
+pub mod Before
+pub mod Bridge

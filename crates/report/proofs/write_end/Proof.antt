@@ -1,0 +1,33 @@
+-- `report::write_end` meets its contract: the text that is put holds the line. Assumes nothing.
+use mathlib.Core.Path.{sym}
+use native.Mathlib.Omega.{arith}
+use lib.Seq.{length-take-le}
+use borrow.Author.Needs.{needs}
+use Rattle.report.specs.Line.{endOf}
+use Rattle.report.proofs.Appends.{_then_, up-to}
+use Rattle.report.proofs.Room.{built}
+use Rattle.report.proofs.write_end.Statement.{statement}
+use Rattle.report.proofs.write_end.Tie as tie
+
+returns : tie.Need-returns
+unfolding endOf
+returns c =
+    let put = c .before .before in
+    let end = put .before .before .before .before in
+    let refused = end .before .before .before in
+    let accepted = refused .before .before .before in
+    let said = accepted .before .before .before in
+    built _ _
+    (up-to (omega arith)
+    (said .push-all .ensures .0
+    then accepted .push-field .ensures
+    then refused .push-field2 .ensures
+    then end .push .ensures))
+    (put .put-text .ensures)
+
+pub write-end-spec : {M : Type 1} → statement M
+write-end-spec =
+    tie.close
+    (tie.spec (λ c. search needs) (λ c. search needs) (λ c κs. search needs) (λ c. search needs)
+    (λ c κs. search needs) (λ c. search needs) (λ c κs. search needs) (λ c. search needs) (λ c κs. search needs)
+    (λ c. search needs) (λ c. sym (length-take-le _ _ (omega arith))) (λ c κs. search needs) (λ c. search needs) returns)

@@ -1,0 +1,49 @@
+-- What every call opens with: the refusals of document 01 that come first, in their order, by what the call is about. Assumes nothing.
+use Prim.Native.Nat.{ℕ}
+use mathlib.Core.Bool.{Bool, not}
+use lib.Dec.{ltb, eqb}
+use Rattle.refusal.specs.declared.Refusal.{Refusal}
+use Rattle.refusal.specs.declared.Refusal.the-variants.{UnsoundRing, AlreadyStarted, NotStarted, NoSuchChannel, NoSuchNode}
+use Rattle.network.specs.declared.Ring.{Ring}
+use Rattle.network.specs.Calls.{unless}
+use Rattle.network.specs.Runs.{Call, addNode, addChannel, start, receive, send, enter, move, hopsLeft, waitingSet}
+use Rattle.network.specs.Layout.{soundRing}
+use Rattle.updates.specs.declared.opening.Subject.{Subject}
+use Rattle.updates.specs.declared.opening.Subject.the-variants.{Plan, Channel, Node, Tasks}
+use Rattle.updates.specs.declared.opening.Opening.{Opening}
+use Rattle.updates.specs.declared.opening.Opening.the-variants.{Open, Refused}
+
+-- what a call is about
+abbrev pub subjectOf : Call → Subject
+subjectOf (addNode slots) = Plan
+subjectOf (addChannel s r) = Plan
+subjectOf start = Plan
+subjectOf (receive k) = Channel (record { 0 = k })
+subjectOf (send k x) = Channel (record { 0 = k })
+subjectOf (enter p) = Node (record { 0 = p })
+subjectOf (move p) = Node (record { 0 = p })
+subjectOf (hopsLeft k) = Channel (record { 0 = k })
+subjectOf (waitingSet p) = Tasks (record { 0 = p })
+
+-- the tests, on the numbers of the head
+abbrev pub begun : ℕ → Bool
+begun started = not (eqb started 0)
+
+abbrev pub beforeStart : ℕ → Opening
+beforeStart started = unless (not (begun started)) (Refused AlreadyStarted) Open
+
+abbrev pub inCount : ℕ → ℕ → Refusal → Opening
+inCount count number none = unless (ltb number count) (Refused none) Open
+
+abbrev pub afterStart : ℕ → ℕ → ℕ → Refusal → Opening
+afterStart started count number none = unless (begun started) (Refused NotStarted) (inCount count number none)
+
+abbrev pub soundOpening : Ring → Subject → Opening
+soundOpening ring Plan = beforeStart (ring .head .started)
+soundOpening ring (Channel k) = afterStart (ring .head .started) (ring .head .«channel_count») (k .0) NoSuchChannel
+soundOpening ring (Node p) = afterStart (ring .head .started) (ring .head .«node_count») (p .0) NoSuchNode
+soundOpening ring (Tasks p) = inCount (ring .head .«node_count») (p .0) NoSuchNode
+
+-- an unsound ring is refused before all others
+abbrev pub openingOf : Ring → Subject → Opening
+openingOf ring subject = unless (soundRing ring) (Refused UnsoundRing) (soundOpening ring subject)
