@@ -3,8 +3,8 @@ use Rattle.network.specs.declared.Ring.{Ring}
 use Rattle.network.specs.declared.RingCall.{RingCall}
 use Rattle.network.specs.declared.RingCall.the-variants as ring
 use Rattle.network.specs.declared.Step.{Step}
-use Rattle.network.specs.Answers.{callOf, stepOf}
-use Rattle.network.specs.Layout.{callRing}
+use Rattle.network.specs.Answers.{callOf}
+use Rattle.network.specs.Layout.{stepRing}
 use Rattle.tape.specs.declared.Action.{Action}
 use Rattle.tape.specs.declared.Action.the-variants.{AddNode, AddChannel, Start, Receive, Send, Enter, Move}
 use Rattle.tape.specs.declared.Command.{Command}
@@ -21,4 +21,4 @@ ringCall (Move node) = ring.Move (record { 0 = node })
 
 -- the ring after a command, and the reply
 unfoldable pub commandStep : Command → Ring → Step
-commandStep c ring = stepOf ring (callRing (callOf (ringCall (c .action)) (c .«record»)) ring)
+commandStep c ring = stepRing (callOf (ringCall (c .action)) (c .«record»)) ring

@@ -3,20 +3,15 @@
 use Rattle.network.specs.declared.Answer.{Answer}
 use Rattle.network.specs.declared.Reply.{Reply}
 use Rattle.network.specs.declared.Ring.{Ring}
-use Rattle.network.specs.declared.Step.{Step}
-use Rattle.network.specs.Answers.{stepOf, replyOf}
-use Rattle.network.specs.Layout.{callRing}
+use Rattle.network.specs.Answers.{replyOf}
+use Rattle.network.specs.Layout.{callRing, stepRing}
 use Rattle.network.specs.Runs.{Call}
 
--- what the call by value returns
-abbrev pub stepTo : Call → Ring → Step
-stepTo a ring = stepOf ring (callRing a ring)
-
 abbrev pub ringAfter : Call → Ring → Ring
-ringAfter a ring = stepTo a ring .ring
+ringAfter a ring = stepRing a ring .ring
 
 abbrev pub replyTo : Call → Ring → Reply
-replyTo a ring = stepTo a ring .reply
+replyTo a ring = stepRing a ring .reply
 
 -- what a question by value returns
 abbrev pub answerTo : Call → Ring → Answer

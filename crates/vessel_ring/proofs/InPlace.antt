@@ -14,9 +14,9 @@ use denote.Ref.{now}
 use denote.Triple.Statement.{Triple}
 use denote.Triple.Spec.{Meets}
 use denote.Triple.Clauses.{closing}
+use Rattle.network.specs.Layout.{stepRing}
 use Rattle.network.specs.declared.Ring.{Ring}
 use Rattle.network.specs.Runs.{Call}
-use Rattle.site.specs.InPlace.{stepTo}
 use Rattle.site.proofs.Called.{CallOf}
 use Rattle.site.proofs.Params.{Kind, Values, u8-kind}
 use Rattle.site.proofs.Walk.{Paired, Lent, Clause, clauses, returned, inPlace, in-place}

@@ -16,9 +16,9 @@ use network::Step;
 ghost use mathlib.Core.Path.{_≡_};
 ghost use Rattle.network.specs.Answers.{callOf};
 ghost use Rattle.network.specs.Counting.{one};
-ghost use Rattle.network.specs.Layout.{soundRing};
+ghost use Rattle.network.specs.Layout.{soundRing, stepRing};
 ghost use Rattle.network.specs.Runs;
-ghost use Rattle.site.specs.InPlace.{stepTo, answerTo};
+ghost use Rattle.site.specs.InPlace.{answerTo};
 ghost use Rattle.vessel_ring.specs.Answers.{numbersIn, numbers, toldOf, movedOf, hopsLeftIn, waitingIn};
 ghost use Rattle.vessel_ring.specs.Records.{recordOf};
 
@@ -97,19 +97,19 @@ fn delivery_in(s: Step) -> Moved
 
 // Any call of which C is told no more than the refusal; the record is that of a send.
 fn make(ring: Ring, call: RingCall, record: BatchRecord) -> Told
-    ensures { λ r. ⌜ r ≡ toldOf (stepTo (callOf call «record») ring) ⌝ }
+    ensures { λ r. ⌜ r ≡ toldOf (stepRing (callOf call «record») ring) ⌝ }
 {
     in_numbers(calls::perform(ring, call, record))
 }
 
 pub fn add_node(ring: Ring, slots: u8) -> Told
-    ensures { λ r. ⌜ r ≡ toldOf (stepTo (Runs.addNode slots) ring) ⌝ }
+    ensures { λ r. ⌜ r ≡ toldOf (stepRing (Runs.addNode slots) ring) ⌝ }
 {
     make(ring, RingCall::AddNode(slots), BatchRecord::none())
 }
 
 pub fn add_channel(ring: Ring, sender: u8, receiver: u8) -> Told
-    ensures { λ r. ⌜ r ≡ toldOf (stepTo (Runs.addChannel sender receiver) ring) ⌝ }
+    ensures { λ r. ⌜ r ≡ toldOf (stepRing (Runs.addChannel sender receiver) ring) ⌝ }
 {
     make(
         ring,
@@ -119,13 +119,13 @@ pub fn add_channel(ring: Ring, sender: u8, receiver: u8) -> Told
 }
 
 pub fn start(ring: Ring) -> Told
-    ensures { λ r. ⌜ r ≡ toldOf (stepTo Runs.start ring) ⌝ }
+    ensures { λ r. ⌜ r ≡ toldOf (stepRing Runs.start ring) ⌝ }
 {
     make(ring, RingCall::Start, BatchRecord::none())
 }
 
 pub fn receive(ring: Ring, channel: u8) -> Told
-    ensures { λ r. ⌜ r ≡ toldOf (stepTo (Runs.receive channel) ring) ⌝ }
+    ensures { λ r. ⌜ r ≡ toldOf (stepRing (Runs.receive channel) ring) ⌝ }
 {
     make(
         ring,
@@ -135,19 +135,19 @@ pub fn receive(ring: Ring, channel: u8) -> Told
 }
 
 pub fn send(ring: Ring, channel: u8, record: Record) -> Told
-    ensures { λ r. ⌜ r ≡ toldOf (stepTo (Runs.send channel (recordOf «record»)) ring) ⌝ }
+    ensures { λ r. ⌜ r ≡ toldOf (stepRing (Runs.send channel (recordOf «record»)) ring) ⌝ }
 {
     make(ring, RingCall::Send(ChannelNo(channel)), record_of(record))
 }
 
 pub fn enter(ring: Ring, node: u8) -> Told
-    ensures { λ r. ⌜ r ≡ toldOf (stepTo (Runs.enter node) ring) ⌝ }
+    ensures { λ r. ⌜ r ≡ toldOf (stepRing (Runs.enter node) ring) ⌝ }
 {
     make(ring, RingCall::Enter(NodeNo(node)), BatchRecord::none())
 }
 
 pub fn move_on(ring: Ring, node: u8) -> Moved
-    ensures { λ r. ⌜ r ≡ movedOf (stepTo (Runs.move node) ring) ⌝ }
+    ensures { λ r. ⌜ r ≡ movedOf (stepRing (Runs.move node) ring) ⌝ }
 {
     let made = calls::perform(ring, RingCall::Move(NodeNo(node)), BatchRecord::none());
     delivery_in(made)

@@ -3,10 +3,10 @@ use mathlib.Core.Path.{refl}
 use mathlib.Core.List.{[], _∷_}
 use base.Logic.{emp}
 use contract.Monad.{factI}
+use Rattle.network.specs.Layout.{stepRing}
 use Rattle.network.specs.Runs
 use Rattle.tasks.proofs.receive.Symbol as by-value
 use Rattle.tasks.proofs.receive.Met.{met}
-use Rattle.site.specs.InPlace.{stepTo}
 use Rattle.site.proofs.Types.{channel-no, reply, step}
 use Rattle.site.proofs.Walk.{in-place}
 use Rattle.site.proofs.receive as receive
@@ -17,6 +17,6 @@ use Rattle.site.proofs.receive.Code as code
 pub receive-spec : {M : Type 1} → statement M
 unfolding code.routine
 receive-spec 𝓤 H 𝓜 𝓖 𝓡 =
-    in-place reply step (channel-no ∷ []) (λ ring a. stepTo (Runs.receive (a .0 .0)) ring) 𝓤 H 𝓜 𝓖 𝓡
+    in-place reply step (channel-no ∷ []) (λ ring a. stepRing (Runs.receive (a .0 .0)) ring) 𝓤 H 𝓜 𝓖 𝓡
     (λ κs a. receive.clauses 𝓤 H (𝓖 .A) (𝓜 .mem) (𝓡 .run) κs a .ensures tt) (λ κs a ws. factI 𝓤 _ (emp 𝓤) (refl, refl))
     code.env name by-value.name by-value.routine (code.unfolded 𝓤 H 𝓜 𝓡) code.calls-tasks·receive (met 𝓤 H 𝓜 𝓖 𝓡)

@@ -3,10 +3,10 @@ use mathlib.Core.Path.{refl}
 use mathlib.Core.List.{[]}
 use base.Logic.{emp}
 use contract.Monad.{factI}
+use Rattle.network.specs.Layout.{stepRing}
 use Rattle.network.specs.Runs
 use Rattle.plan.proofs.start.Symbol as by-value
 use Rattle.plan.proofs.start.Met.{met}
-use Rattle.site.specs.InPlace.{stepTo}
 use Rattle.site.proofs.Types.{reply, step}
 use Rattle.site.proofs.Walk.{in-place}
 use Rattle.site.proofs.start as start
@@ -17,6 +17,6 @@ use Rattle.site.proofs.start.Code as code
 pub start-spec : {M : Type 1} → statement M
 unfolding code.routine
 start-spec 𝓤 H 𝓜 𝓖 𝓡 =
-    in-place reply step [] (λ ring a. stepTo Runs.start ring) 𝓤 H 𝓜 𝓖 𝓡
+    in-place reply step [] (λ ring a. stepRing Runs.start ring) 𝓤 H 𝓜 𝓖 𝓡
     (λ κs a. start.clauses 𝓤 H (𝓖 .A) (𝓜 .mem) (𝓡 .run) κs a .ensures tt) (λ κs a ws. factI 𝓤 _ (emp 𝓤) (refl, refl))
     code.env name by-value.name by-value.routine (code.unfolded 𝓤 H 𝓜 𝓡) code.calls-plan·start (met 𝓤 H 𝓜 𝓖 𝓡)

@@ -1,7 +1,7 @@
 -- `vessel_ring_start` meets its contract: it is a call in place (InPlace.antt) over `by_number::start`. Assumes nothing.
 use mathlib.Core.List.{[]}
+use Rattle.network.specs.Layout.{stepRing}
 use Rattle.network.specs.Runs
-use Rattle.site.specs.InPlace.{stepTo}
 use Rattle.site.proofs.Params.{u8-kind}
 use Rattle.vessel_ring.specs.Answers.{toldOf}
 use Rattle.vessel_ring.proofs.InPlace.{changes}
@@ -15,5 +15,5 @@ use Rattle.vessel_ring.proofs.vessel_ring_start.Code as code
 pub vessel-ring-start-spec : {M : Type 1} → statement M
 unfolding code.routine
 vessel-ring-start-spec 𝓤 H 𝓜 𝓖 𝓡 =
-    changes u8-kind told [] (λ ring a. toldOf (stepTo Runs.start ring)) 𝓤 H 𝓜 𝓖 𝓡
+    changes u8-kind told [] (λ ring a. toldOf (stepRing Runs.start ring)) 𝓤 H 𝓜 𝓖 𝓡
     code.env name by-value.name by-value.routine (code.unfolded 𝓤 H 𝓜 𝓡) code.calls-vessel-ring·by-number·start (met 𝓤 H 𝓜 𝓖 𝓡)
