@@ -5,6 +5,8 @@
 // is lent as a ring is a value, which the test for a sound ring judges; and a ring can be lent to C, compared and stored as memory. What
 // is large is an array of bytes, which a call is lent where it lies; what is small, the head, goes by value.
 use batch::BatchRecord;
+use numbers::ChannelNo;
+use numbers::NodeNo;
 use refusal::Refusal;
 use wire;
 ghost use mathlib.Core.Path.{_≡_};
@@ -31,11 +33,6 @@ pub type ByChannel = [u8; CHANNELS];
 pub type Cells = [u8; CELLS];
 
 pub type Records = [u8; RECORDS];
-
-// Three kinds of number that are never taken for one another; the third is a batch number, `BatchNo` of `batch`.
-pub struct NodeNo(pub u8);
-
-pub struct ChannelNo(pub u8);
 
 // A ring but for its cells and its records.
 #[repr(C)]

@@ -4,9 +4,9 @@
 use network::Cells;
 use network::Head;
 use network::HeadStep;
-use network::NodeNo;
 use network::Records;
 use network::Ring;
+use numbers::NodeNo;
 use refusal::Refusal;
 use soundness;
 use updates::answer::accept;

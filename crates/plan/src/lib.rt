@@ -4,9 +4,9 @@
 // call on its parts, which stands in `lent`.
 pub mod lent;
 
-use network::NodeNo;
 use network::Ring;
 use network::Step;
+use numbers::NodeNo;
 use updates::answer;
 ghost use mathlib.Core.Path.{_≡_};
 ghost use Rattle.network.specs.Answers.{stepOf};

@@ -3,11 +3,11 @@
 use hops;
 use network::Answer;
 use network::Cells;
-use network::ChannelNo;
 use network::Head;
-use network::NodeNo;
 use network::Records;
 use network::Ring;
+use numbers::ChannelNo;
+use numbers::NodeNo;
 use updates::opening::Opening;
 use updates::opening::Subject;
 use updates::opening::open;

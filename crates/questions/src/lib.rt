@@ -4,9 +4,9 @@
 pub mod lent;
 
 use network::Answer;
-use network::ChannelNo;
-use network::NodeNo;
 use network::Ring;
+use numbers::ChannelNo;
+use numbers::NodeNo;
 ghost use mathlib.Core.Path.{_≡_};
 ghost use lib.Count.{ones};
 ghost use Rattle.network.specs.Answers.{replyOf};

@@ -4,8 +4,8 @@ mod text;
 
 use batch::BatchRecord;
 use network::Answer;
-use network::ChannelNo;
 use network::Reply;
+use numbers::ChannelNo;
 ghost use mathlib.Core.List.{_++_};
 ghost use mathlib.Core.Path.{_≡_};
 ghost use Prim.Native.Nat.{_+_, _≤_};

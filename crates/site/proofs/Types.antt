@@ -6,10 +6,10 @@ use Rattle.batch.proofs.BatchRecord as B
 use Rattle.batch.proofs.BatchRecord.Laws as B′
 use Rattle.network.proofs.Answer as A
 use Rattle.network.proofs.Answer.Laws as A′
-use Rattle.network.proofs.ChannelNo as C
-use Rattle.network.proofs.ChannelNo.Laws as C′
-use Rattle.network.proofs.NodeNo as N
-use Rattle.network.proofs.NodeNo.Laws as N′
+use Rattle.numbers.proofs.ChannelNo as C
+use Rattle.numbers.proofs.ChannelNo.Laws as C′
+use Rattle.numbers.proofs.NodeNo as N
+use Rattle.numbers.proofs.NodeNo.Laws as N′
 use Rattle.network.proofs.Reply as P
 use Rattle.network.proofs.Reply.Laws as P′
 use Rattle.network.proofs.RingCall as K

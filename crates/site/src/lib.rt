@@ -12,11 +12,11 @@
 // it returns is the whole ring afterwards and the reply.
 use batch::BatchRecord;
 use network::Answer;
-use network::ChannelNo;
-use network::NodeNo;
 use network::Reply;
 use network::Ring;
 use network::RingCall;
+use numbers::ChannelNo;
+use numbers::NodeNo;
 ghost use mathlib.Core.Path.{_≡_};
 ghost use Rattle.network.specs.Answers.{callOf};
 ghost use Rattle.network.specs.Runs;

@@ -5,9 +5,9 @@
 pub mod lent;
 
 use batch::BatchRecord;
-use network::ChannelNo;
 use network::Ring;
 use network::Step;
+use numbers::ChannelNo;
 use updates::answer;
 ghost use mathlib.Core.Path.{_≡_};
 ghost use Rattle.network.specs.Answers.{stepOf};

@@ -3,13 +3,13 @@
 // was.
 use network::Answer;
 use network::Cells;
-use network::ChannelNo;
 use network::Head;
 use network::HeadStep;
-use network::NodeNo;
 use network::Records;
 use network::Reply;
 use network::Ring;
+use numbers::ChannelNo;
+use numbers::NodeNo;
 use refusal::Refusal;
 use updates::answer::accept;
 use updates::answer::refuse;

@@ -13,8 +13,8 @@ use lib.Dec.{ltb}
 use borrow.Author.Tests.{ltb-true, ne-eqb}
 use Rattle.refusal.specs.declared.Refusal.{Refusal}
 use Rattle.refusal.specs.declared.Refusal.the-variants.{UnsoundRing, AlreadyStarted, NotStarted, NoSuchChannel, NoSuchNode}
-use Rattle.network.specs.declared.ChannelNo.{ChannelNo}
-use Rattle.network.specs.declared.NodeNo.{NodeNo}
+use Rattle.numbers.specs.declared.ChannelNo.{ChannelNo}
+use Rattle.numbers.specs.declared.NodeNo.{NodeNo}
 use Rattle.network.specs.declared.Ring.{Ring}
 use Rattle.network.specs.declared.HeadStep.{HeadStep}
 use Rattle.network.specs.Answers.{replyOf, stepOf}

@@ -1,10 +1,10 @@
 // What every call asks of its ring before anything else: that it is sound, that it has started or has not, and that the channel or the
 // node of the call is there. A call whose opening is refused answers that refusal.
 use network::Cells;
-use network::ChannelNo;
 use network::Head;
-use network::NodeNo;
 use network::Records;
+use numbers::ChannelNo;
+use numbers::NodeNo;
 use refusal::Refusal;
 use soundness;
 ghost use mathlib.Core.Path.{_≡_};
