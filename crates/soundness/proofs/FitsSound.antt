@@ -45,7 +45,7 @@ module _ (ring : Ring) (f : Fits ring) where
   stands k l =
       let room : k < channelRoom = omega (arith, f .counts .channels-within) in
       let h = channel-held ring f k room in
-      rw (← h .phase, ← h .sender, ← h .receiver) (f .messages .right k room)
+      rw (← h .phase, ← h .sender, ← h .receiver) (f .messages .right k l)
 
   -- a message that stands somewhere is under way between nodes
   module _ (k : ℕ) (l : k < channels ring) (some-place : 1 ≤ place k) where

@@ -130,17 +130,12 @@ module _ (ring : Ring) (s : SoundRing ring) where
       under-way : 1 ≤ place k → UnderWay enters goes-to (place k)
       under-way somewhere = by-place k (omega (arith, moves k, times k)) at-buffer at-line
 
-    stands : (k : ℕ) → k < channelRoom →
+    stands : (k : ℕ) → k < channels ring →
         Stands (getD (ring .head .phases) k 0) (getD (ring .head .senders) k 0) (getD (ring .head .receivers) k 0) (place k)
     stands k l =
-        let h = s .holds .channels k l in
+        let h = s .holds .channels k (omega (arith, within)) in
         rw (h .phase, h .sender, h .receiver)
-        (way-stands (channel σ k) (place k) (channel σ k .phase) (moves k)
-        (λ somewhere.
-        by-less k (channels ring) (λ known. under-way k known somewhere)
-        (λ past.
-        let still : one (moving (channel σ k .phase)) ≡ 0 = rw (no-channel σ k (rw (channel-count-of ring) past)) in
-        absurd (omega (arith, moves k)))))
+        (way-stands (channel σ k) (place k) (channel σ k .phase) (moves k) (under-way k l))
 
   messages-fit :
       MessagesFit (nodes ring) (channels ring) (ring .head .used) (ring .head .waiting) (ring .head .phases) (ring .head .senders)
