@@ -134,12 +134,12 @@ unfoldable pub hopsOf : Network → ChannelNo → ℕ
 hopsOf σ k = hopsLeftOf (nodeCount σ) (channel σ k) (channel σ k .phase) (holder σ k (nodeCount σ))
 
 -- a channel whose receiver is node p and that is not resting; and all these as a set of bits, channel 0 being the lowest
-abbrev pub waitsAt : NodeNo → ChannelState → Bool
-waitsAt p s = sameNode (s .receiver) p && not (isResting (s .phase))
+abbrev pub waits : NodeNo → ChannelState → Bool
+waits p s = sameNode (s .receiver) p && not (isResting (s .phase))
 
 unfoldable pub waitingOf : Network → NodeNo → ℕ
 waitingOf σ p =
-    sum (channelCount σ) (λ k. 2 ^ k * one (waitsAt p (channel σ (channelNo k))))
+    sum (channelCount σ) (λ k. 2 ^ k * one (waits p (channel σ (channelNo k))))
 
 -- The nine calls. Each line is a refusal in the order of document 01: go on where the test passes, else refuse.
 module _ (L : Limits) where
