@@ -47,6 +47,10 @@ pub data Outcome (S : Type 0) : Type 0 where
 abbrev pub joinLine : NodeNo → ChannelNo → Network → Network
 joinLine p k σ = withNode p (node σ p .buffer) (node σ p .line ++ (k ∷ [])) (node σ p .mark) σ
 
+-- the channel becomes asking, and its request joins the receiver node's line
+abbrev pub request : ChannelNo → Network → Network
+request k σ = joinLine (channel σ k .receiver) k (withChannel k asking (channel σ k .offer) σ)
+
 -- the channel becomes answering, and the record x leaves the offer and joins the sender node's line as the response
 abbrev pub respond : ChannelNo → BatchRecord → Network → Network
 respond k x σ = joinLine (channel σ k .sender) k (withChannel k (answering x) none σ)
@@ -170,7 +174,7 @@ receive k σ =
     unless (σ .started) (refused NotStarted)
     (unless (isChannel σ k) (refused NoSuchChannel)
     (unless (isResting (channel σ k .phase)) (refused NotResting)
-    (accepted done (joinLine (channel σ k .receiver) k (withChannel k asking (channel σ k .offer) σ)))))
+    (accepted done (request k σ))))
 
 unfoldable pub send : ChannelNo → BatchRecord → Network → Outcome Network
 send k x σ =

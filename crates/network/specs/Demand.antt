@@ -66,7 +66,9 @@ module _ {S : Type 0} (fresh : S) (sound : S → Bool) (seen : S → Network) (s
 
   -- From a fresh ring, the records delivered on each channel are the first of those offered, in order, each once.
   abbrev pub InOrder : Type 0
-  InOrder = (k : ChannelNo) (calls : List Call) → (left : List BatchRecord) × (offeredOn step k calls fresh ≡ deliveredOn step k calls fresh ++ left)
+  InOrder =
+      (k : ChannelNo) (calls : List Call) →
+      (left : List BatchRecord) × (offeredOn step k calls fresh ≡ deliveredOn step k calls fresh ++ left)
 
   -- From an unsound ring, each call of a run answers 25, and the ring stays.
   pub record TurnedDown (s : S) (calls : List Call) : Type 0 where

@@ -179,7 +179,9 @@ module _ {ring : Ring} {k : ℕ} (h : AtChannel ring k) where
         ∙ higher-at (node σ (nodeNo p) .buffer) i l
 
     stands-in-buffer : standsIn (ring .slots) (rowLength * p) (k + 1) (usedAt (ring .head) p) ≡ ltb 0 (count k buffer)
-    stands-in-buffer = rw (add-one k, numbers .used, ← length-numbers (node σ (nodeNo p) .buffer)) (stands-where (ring .slots) (rowLength * p) k buffer higher-cell)
+    stands-in-buffer =
+        rw (add-one k, numbers .used, ← length-numbers (node σ (nodeNo p) .buffer))
+        (stands-where (ring .slots) (rowLength * p) k buffer higher-cell)
 
   place-held : (entry m : ℕ) → m ≤ n → placeIn (ring .head) (ring .slots) (k + 1) entry m ≡ standsAt (holder σ (channelNo k) m) entry
   unfolding placeIn holder

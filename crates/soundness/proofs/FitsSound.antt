@@ -68,7 +68,8 @@ module _ (ring : Ring) (f : Fits ring) where
       let some-place : 1 ≤ place k = omega arith in
       let way = under-way k known some-place .in-buffer p (omega (arith, f .counts .nodes-within)) at in
       let to = ends k known some-place in
-      rw (channel-count-of ring, node-count-of ring, ← entry-in σ (channel σ (channelNo k) .phase) k, ← target-in σ (channel σ (channelNo k) .phase) k)
+      let g = channel σ (channelNo k) .phase in
+      rw (channel-count-of ring, node-count-of ring, ← entry-in σ g k, ← target-in σ g k)
       (known, decides-way (nodes ring) p _ _ l (to .0) (to .1) .holds way)
 
   line-fits : (p k : ℕ) → p < nodes ring → 0 < timesIn (node σ (nodeNo p) .line) (channelNo k) → LineFits σ p k

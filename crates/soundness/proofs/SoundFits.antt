@@ -56,7 +56,8 @@ module _ (ring : Ring) (s : SoundRing ring) where
       (in-line : (p : ℕ) → p < nodes ring → 0 < timesIn (node σ (nodeNo p) .line) (channelNo k) → X) where
     by-place : X
     by-place =
-        let found = sum-some (nodeCount σ) (λ p. timesIn (node σ (nodeNo p) .buffer) (channelNo k) + timesIn (node σ (nodeNo p) .line) (channelNo k)) met in
+        let found =
+        sum-some (nodeCount σ) (λ p. timesIn (node σ (nodeNo p) .buffer) (channelNo k) + timesIn (node σ (nodeNo p) .line) (channelNo k)) met in
         let here : found .0 < nodes ring = omega (arith, found .1, node-count-of ring) in
         by-less 0 (timesIn (node σ (nodeNo (found .0)) .buffer) (channelNo k)) (in-buffer (found .0) here)
         (λ none-there. in-line (found .0) here (omega (arith, found .2)))
@@ -77,7 +78,8 @@ module _ (ring : Ring) (s : SoundRing ring) where
   within = counts-fit ring s .channels-within
 
   times-in : (k : ℕ) →
-      timesInRows (nodes ring) (channels ring) within (ring .head .used) (ring .head .waiting) (ring .slots) (ring .lines) k ≡ timesOn σ (channelNo k)
+      timesInRows (nodes ring) (channels ring) within (ring .head .used) (ring .head .waiting) (ring .slots) (ring .lines) k
+      ≡ timesOn σ (channelNo k)
   times-in k = sym (rw (node-count-of ring) (sum-same (nodes ring) _ _ (λ p l. rw (node-of ring p l))))
 
   module _ (places : List ℕ)
@@ -107,7 +109,8 @@ module _ (ring : Ring) (s : SoundRing ring) where
           let at : place k ≡ inBuffer + p = t .in-buffer p k here (rw (node-of ring p here) at m) in
           let fit = s .facts .each-node p (known-node p here) .in-buffer k m in
           let near : hops (nodes ring) p goes-to ≤ hops (nodes ring) enters goes-to =
-          rw (← entry-in σ (channel σ (channelNo k) .phase) k, ← target-in σ (channel σ (channelNo k) .phase) k, node-count-of ring) at (fit .1) in
+          let g = channel σ (channelNo k) .phase in
+          rw (← entry-in σ g k, ← target-in σ g k, node-count-of ring) at (fit .1) in
           record {
             somewhere = omega arith;
             in-buffer = λ q inside e.

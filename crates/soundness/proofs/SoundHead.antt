@@ -56,7 +56,8 @@ module _ (ring : Ring) (s : SoundRing ring) where
 
   -- what is so before the start
   record Before : Type 0 where
-    at-rest : (k : ℕ) → k < channelCount σ → (isResting (channel σ (channelNo k) .phase) ≡ true) × (absent (channel σ (channelNo k) .offer) ≡ true)
+    at-rest : (k : ℕ) → k < channelCount σ →
+        (isResting (channel σ (channelNo k) .phase) ≡ true) × (absent (channel σ (channelNo k) .offer) ≡ true)
     unmarked : (p : ℕ) → p < nodeCount σ → not (node σ (nodeNo p) .mark) ≡ true
     none-delivered : σ .deliveries ≡ 0
 

@@ -21,7 +21,7 @@ use Rattle.network.specs.declared.Ring.{Ring}
 use Rattle.network.specs.Answers.{stepOf}
 use Rattle.network.specs.Network.{Network, channelNo, resting, asking, ready, nodeCount, channel, withChannel}
 use Rattle.network.specs.Sound.{isResting, isReady, absent}
-use Rattle.network.specs.Calls.{done, refused, accepted, unless, joinLine, respond, offerTo, ifGood}
+use Rattle.network.specs.Calls.{done, refused, accepted, unless, request, respond, offerTo, ifGood}
 use Rattle.network.specs.Calls
 use Rattle.network.specs.Runs
 use Rattle.network.specs.Layout.{view, heldOutcome, callRing, stepIn}
@@ -45,7 +45,7 @@ module _ {ring : Ring} {k : ℕ} (h : AtChannel ring k) where
 
   receive-called : Calls.receive (channelNo k) σ
       ≡ unless (isResting (channel σ (channelNo k) .phase)) (refused NotResting)
-      (accepted done (joinLine (channel σ (channelNo k) .receiver) (channelNo k) (withChannel (channelNo k) asking (channel σ (channelNo k) .offer) σ)))
+      (accepted done (request (channelNo k) σ))
   unfolding Calls.receive
   receive-called = rw (channel-running h, lt-ltb _ _ (channel-there h))
 
@@ -63,10 +63,10 @@ module _ {ring : Ring} {k : ℕ} (h : AtChannel ring k) where
     there = channel-known h .facts .each-channel k (channel-there h) .receiver-below
 
     receive-accepted : Calls.receive (channelNo k) σ
-        ≡ accepted done (joinLine (channel σ (channelNo k) .receiver) (channelNo k) (withChannel (channelNo k) asking (channel σ (channelNo k) .offer) σ))
+        ≡ accepted done (request (channelNo k) σ)
     receive-accepted = receive-called ∙ rw at-rest
 
-    next-fits : Fits (joinLine (channel σ (channelNo k) .receiver) (channelNo k) (withChannel (channelNo k) asking (channel σ (channelNo k) .offer) σ))
+    next-fits : Fits (request (channelNo k) σ)
     next-fits = accepted-fits ring (h .ok) (Runs.receive (channelNo k)) receive-accepted
 
     -- what the code asks before the request joins the line
@@ -97,7 +97,8 @@ module _ {ring : Ring} {k : ℕ} (h : AtChannel ring k) where
 
   module _ (x : BatchRecord) where
     send-called : Calls.send (channelNo k) x σ
-        ≡ ifGood (verdictOf x) (unless (absent (channel σ (channelNo k) .offer)) (refused AlreadyOffered) (accepted done (offerTo (channelNo k) x σ)))
+        ≡ ifGood (verdictOf x)
+        (unless (absent (channel σ (channelNo k) .offer)) (refused AlreadyOffered) (accepted done (offerTo (channelNo k) x σ)))
     unfolding Calls.send
     send-called = rw (channel-running h, lt-ltb _ _ (channel-there h))
 

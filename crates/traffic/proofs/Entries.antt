@@ -48,7 +48,8 @@ module _ {ring : Ring} {p : ℕ} (h : AtNode ring p) where
       pub enter-done : callRing (Runs.enter (nodeNo p)) ring ≡ accepted done (entered ring p)
       enter-done =
           let s = node-known h in
-          let slot : length (node σ (nodeNo p) .buffer) < node σ (nodeNo p) .slots = rw (node-numbers h .capacity, node-numbers h .used) at free in
+          let slot : length (node σ (nodeNo p) .buffer) < node σ (nodeNo p) .slots =
+          rw (node-numbers h .capacity, node-numbers h .used) at free in
           let room : length (node σ (nodeNo p) .buffer) < rowLength = rw (node-numbers h .used) at enter-room in
           by-list (node σ (nodeNo p) .line) (λ e. absurd (some (node-numbers h .waiting ∙ ap length e))) λ k ks e.
           called

@@ -130,7 +130,8 @@ module _ {ring : Ring} {p cell : ℕ} (h : Leaves ring p cell) where
 
   target-is : targetBy (phaseAt (ring .head) k) (senderAt (ring .head) k) (receiverAt (ring .head) k) ≡ target σ (channelNo k) .0
   target-is =
-      (λ i. targetBy (channel-is .phase i) (channel-is .sender i) (channel-is .receiver i)) ∙ target-here (channel σ (channelNo k)) (first .moves)
+      (λ i. targetBy (channel-is .phase i) (channel-is .sender i) (channel-is .receiver i))
+      ∙ target-here (channel σ (channelNo k)) (first .moves)
 
   next-is : nextNode σ (nodeNo p) .0 ≡ next (ring .head .«node_count») p
   next-is = ap (λ n. next n p) (sym (known .holds .node-count))
@@ -175,7 +176,8 @@ carried-is (answering x) bytes fit e m other = ap answering (sym (ap recordIn e 
 respond-after : (σ : Network) (k : ℕ) (f : Phase) (x : BatchRecord) → k < channelCount σ →
     respond (channelNo k) x (withChannel (channelNo k) f none σ) ≡ respond (channelNo k) x σ
 respond-after σ k f x l =
-    let s : ChannelState = record { sender = channel σ (channelNo k) .sender; receiver = channel σ (channelNo k) .receiver; phase = f; offer = none } in
+    let s : ChannelState =
+    record { sender = channel σ (channelNo k) .sender; receiver = channel σ (channelNo k) .receiver; phase = f; offer = none } in
     rw (getD-set-same (σ .channels) k s noChannel l, set-set (σ .channels) k s)
 
 -- a request is taken
@@ -194,10 +196,12 @@ module _ {ring : Ring} {p cell : ℕ} (t : Takes ring p cell) where
   unfolding arrival
   arrives-taken =
       let same : nextNode (view ring) (nodeNo p) .0 ≡ target (view ring) (channelNo asker) .0 =
-      next-is from ∙ sym (t .arrives) ∙ channel-is from .sender ∙ ap (λ f. targetOf (channel (view ring) (channelNo asker)) f .0) (sym is-asking) in
+      next-is from ∙ sym (t .arrives) ∙ channel-is from .sender
+      ∙ ap (λ f. targetOf (channel (view ring) (channelNo asker)) f .0) (sym is-asking) in
       rw (eq-eqb _ _ same, is-asking)
 
-  takes : Calls.move (nodeNo p) (view ring) ≡ accepted done (takeRequest (channelNo asker) (channel (view ring) (channelNo asker) .offer) (behind from))
+  takes : Calls.move (nodeNo p) (view ring)
+      ≡ accepted done (takeRequest (channelNo asker) (channel (view ring) (channelNo asker) .offer) (behind from))
   takes = handed from arrives-taken
 
   -- no record is offered: the channel becomes ready
@@ -249,7 +253,9 @@ module _ {ring : Ring} {p cell : ℕ} (t : Takes ring p cell) where
     answerable : Answerable bare asker x
     answerable =
         record {
-          fits = fits-with-channel (behind from) (behind-fits from) asker _ none (first from .known) tt (behind-fits from .carried-fits asker (first from .known));
+          fits =
+              fits-with-channel (behind from) (behind-fits from) asker _ none (first from .known) tt
+              (behind-fits from .carried-fits asker (first from .known));
           known = rw length-set (first from .known);
           record-fits = subst OfferFits is-offered (known from .fits .offer-fits asker (first from .known));
           bare = ap (λ s. s .offer) bare-channel;
@@ -309,7 +315,8 @@ module _ {ring : Ring} {p cell : ℕ} (t : Delivers ring p cell) where
       ∙ ap (λ f. targetOf (channel (view ring) (channelNo (k leaving))) f .0) (sym is-answering) in
       rw (eq-eqb _ _ same, is-answering)
 
-  deliver-done : callRing (Runs.move (nodeNo p)) ring ≡ accepted (delivered (channelNo (k leaving)) record-carried) (handedOut (left ring p) (k leaving))
+  deliver-done : callRing (Runs.move (nodeNo p)) ring
+      ≡ accepted (delivered (channelNo (k leaving)) record-carried) (handedOut (left ring p) (k leaving))
   deliver-done =
       let memory : handedOut (left ring p) (k leaving) ≡ hold (deliver (channelNo (k leaving)) (behind leaving)) =
       ap (λ r. handedOut r (k leaving)) (behind-held leaving)
@@ -334,7 +341,8 @@ module _ {ring : Ring} {p cell : ℕ} (t : Delivers ring p cell) where
 left-shorter : (σ : Network) (p q : ℕ) (k : ChannelNo) (ks : List ChannelNo) → p < nodeCount σ → node σ (nodeNo p) .buffer ≡ k ∷ ks →
     length (node (leave (nodeNo p) ks σ) (nodeNo q) .buffer) ≤ length (node σ (nodeNo q) .buffer)
 left-shorter σ p q k ks l e =
-    let s : NodeState = record { slots = node σ (nodeNo p) .slots; buffer = ks; line = node σ (nodeNo p) .line; mark = node σ (nodeNo p) .mark } in
+    let s : NodeState =
+    record { slots = node σ (nodeNo p) .slots; buffer = ks; line = node σ (nodeNo p) .line; mark = node σ (nodeNo p) .mark } in
     by-same q p
     (λ same. rw (same, getD-set-same (σ .nodes) p s noNode l, e) (omega arith))
     (λ other. rw (getD-set-other (σ .nodes) p q s noNode other) (omega arith))
@@ -355,7 +363,8 @@ module _ {ring : Ring} {p q cell : ℕ} (t : Passes ring p q cell) where
   arrives-passing : arrival (view ring) (nextNode (view ring) (nodeNo p)) (channelNo (k goes)) ≡ passing
   unfolding arrival
   arrives-passing =
-      let other : nextNode (view ring) (nodeNo p) .0 ≢ target (view ring) (channelNo (k goes)) .0 = λ e. t .elsewhere (target-is goes ∙ sym e ∙ sym q-is) in
+      let other : nextNode (view ring) (nodeNo p) .0 ≢ target (view ring) (channelNo (k goes)) .0 =
+      λ e. t .elsewhere (target-is goes ∙ sym e ∙ sym q-is) in
       rw (ne-eqb _ _ other) (passing-by (channel (view ring) (channelNo (k goes)) .phase))
 
   passes : Calls.move (nodeNo p) (view ring) ≡ handOver (nodeNo p) (nodeNo q) (channelNo (k goes)) (ks goes) passing (view ring)

@@ -94,7 +94,8 @@ module _ (σ : Network) (fits : Fits σ) where
         numbers noNode nodeRoom (σ .nodes) f (set (σ .nodes) p s) ≡ set (byNode σ f) p v
     stored s f e = numbers-set noNode nodeRoom (σ .nodes) p s l f (fits .nodes-fit) ∙ ap (set (byNode σ f) p) e
 
-    kept : (s : NodeState) (f : NodeState → ℕ) → f s ≡ f (node σ (nodeNo p)) → numbers noNode nodeRoom (σ .nodes) f (set (σ .nodes) p s) ≡ byNode σ f
+    kept : (s : NodeState) (f : NodeState → ℕ) → f s ≡ f (node σ (nodeNo p)) →
+        numbers noNode nodeRoom (σ .nodes) f (set (σ .nodes) p s) ≡ byNode σ f
     kept s f e = numbers-left noNode nodeRoom (σ .nodes) p s l f e
 
     put : (s : NodeState) (f : NodeState → List ℕ) {rs : List ℕ} →
@@ -107,7 +108,8 @@ module _ (σ : Network) (fits : Fits σ) where
     same s f e = cells-left noNode nodeRoom (σ .nodes) p s l rowLength f e
 
     -- a cell after the used ones
-    pushed : (rs : List ℕ) (xs : List ChannelNo) (k : ChannelNo) {used : ℕ} → length rs ≡ cellRoom → row rowLength rs p ≡ padded rowLength (cellsOf xs) →
+    pushed : (rs : List ℕ) (xs : List ChannelNo) (k : ChannelNo) {used : ℕ} → length rs ≡ cellRoom →
+        row rowLength rs p ≡ padded rowLength (cellsOf xs) →
         used ≡ length xs → length xs < rowLength → putRow rowLength rs p (cellsOf (xs ++ (k ∷ []))) ≡ appended rs p used (suc (k .0))
     pushed rs xs k whole e count room =
         put-push rowLength rs p xs k (rw whole (row-end rowLength nodeRoom p inside)) e room
@@ -125,7 +127,8 @@ module _ (σ : Network) (fits : Fits σ) where
     less : (k : ChannelNo) (ks : List ChannelNo) {n : ℕ} {xs : List ChannelNo} → n ≡ length xs → xs ≡ k ∷ ks → length ks ≡ n - 1
     less k ks e same = sym (ap (λ m. m - 1) (e ∙ ap length same) ∙ one-less (length ks))
 
-    pub joined-held : (k : ChannelNo) → length (node σ (nodeNo p) .line) < rowLength → joined (hold σ) p (suc (k .0)) ≡ hold (joinLine (nodeNo p) k σ)
+    pub joined-held : (k : ChannelNo) → length (node σ (nodeNo p) .line) < rowLength →
+        joined (hold σ) p (suc (k .0)) ≡ hold (joinLine (nodeNo p) k σ)
     unfolding hold holdHead
     joined-held k room =
         sym
@@ -150,7 +153,8 @@ module _ (σ : Network) (fits : Fits σ) where
         (sym (cut-put (hold σ .slots) p [] k ks (here .buffer-row ∙ ap (λ xs. padded rowLength (cellsOf xs)) e) (omega arith))))
         (same _ (λ s. cellsOf (s .line)) refl))
 
-    pub entered-held : (k : ChannelNo) (ks : List ChannelNo) → node σ (nodeNo p) .line ≡ k ∷ ks → length (node σ (nodeNo p) .buffer) < rowLength →
+    pub entered-held : (k : ChannelNo) (ks : List ChannelNo) → node σ (nodeNo p) .line ≡ k ∷ ks →
+        length (node σ (nodeNo p) .buffer) < rowLength →
         entered (hold σ) p ≡ hold (withNode (nodeNo p) (node σ (nodeNo p) .buffer ++ (k ∷ [])) ks false σ)
     unfolding hold holdHead
     entered-held k ks e room =
@@ -166,7 +170,8 @@ module _ (σ : Network) (fits : Fits σ) where
         (put _ (λ s. cellsOf (s .buffer)) (pushed-buffer k room))
         (put _ (λ s. cellsOf (s .line)) (sym (cut-put (hold σ .lines) p [] k ks line-row (omega arith))))))
 
-    pub passed-held : (k : ChannelNo) → length (node σ (nodeNo p) .buffer) < rowLength → passed (hold σ) p (suc (k .0)) ≡ hold (pass (nodeNo p) k σ)
+    pub passed-held : (k : ChannelNo) → length (node σ (nodeNo p) .buffer) < rowLength →
+        passed (hold σ) p (suc (k .0)) ≡ hold (pass (nodeNo p) k σ)
     unfolding hold holdHead
     passed-held k room =
         sym

@@ -17,7 +17,7 @@ use Rattle.network.specs.declared.HeadStep.{HeadStep}
 use Rattle.network.specs.declared.Ring.{Ring}
 use Rattle.network.specs.Answers.{stepOf}
 use Rattle.network.specs.Network.{Network, NodeState, resting, asking, answering, nodeNo, channelNo, nodeCount, channelCount, noNode, node, channel, withChannel}
-use Rattle.network.specs.Calls.{Outcome, done, accepted, joinLine, respond}
+use Rattle.network.specs.Calls.{Outcome, done, accepted, joinLine, request, respond}
 use Rattle.network.specs.Layout.{nodeRoom, rowLength, hold, stepIn}
 use Rattle.network.proofs.Memory.Held.{Fits, HeldChannel, held-node, held-channel}
 use Rattle.network.proofs.Memory.Changes.{fits-with-channel}
@@ -54,7 +54,7 @@ here-in σ fits k l = held-channel σ k (omega (arith, fits .channels-fit))
 
 module _ (σ : Network) (fits : Fits σ) (k : ℕ) (l : k < channelCount σ) (there : channel σ (channelNo k) .receiver .0 < nodeCount σ)
     (rests : channel σ (channelNo k) .phase ≡ resting)
-    (next : Fits (joinLine (channel σ (channelNo k) .receiver) (channelNo k) (withChannel (channelNo k) asking (channel σ (channelNo k) .offer) σ))) where
+    (next : Fits (request (channelNo k) σ)) where
   abbrev asks : Network
   asks = withChannel (channelNo k) asking (channel σ (channelNo k) .offer) σ
 
@@ -62,7 +62,7 @@ module _ (σ : Network) (fits : Fits σ) (k : ℕ) (l : k < channelCount σ) (th
   asked-fits = fits-with-channel σ fits k asking (channel σ (channelNo k) .offer) l (fits .offer-fits k l) tt
 
   pub asked-held :
-      joined (phased (hold σ) k 1) (receiverAt (hold σ .head) k) (k + 1) ≡ hold (joinLine (channel σ (channelNo k) .receiver) (channelNo k) asks)
+      joined (phased (hold σ) k 1) (receiverAt (hold σ .head) k) (k + 1) ≡ hold (request (channelNo k) σ)
   asked-held =
       ap (λ r. joined r (receiverAt (hold σ .head) k) (k + 1)) (phased-held σ fits k l asking (rw rests))
       ∙ ap (λ p. joined (hold asks) p (k + 1)) (here-in σ fits k l .receiver)
@@ -102,7 +102,8 @@ module _ {σ : Network} {k : ℕ} {x : BatchRecord} (a : Answerable σ k x) wher
   response-room =
       record {
         known = omega (arith, a .known, a .fits .channels-fit);
-        line = rw (here .sender) (can-join σ (a .fits) _ (a .sender-there) (joined-room answers _ (channelNo k) (a .sender-there) (a .next-fits)));
+        line =
+            rw (here .sender) (can-join σ (a .fits) _ (a .sender-there) (joined-room answers _ (channelNo k) (a .sender-there) (a .next-fits)));
       }
 
   -- the same of a ring that holds σ

@@ -157,7 +157,8 @@ module _ (L : Limits) (σ : Network) (h : Started L σ) where
         (o : Option BatchRecord) → channel σ k .offer ≡ o →
         Stepped σ (Runs.move p) done (takeRequest k o (leave p ks σ))
     taken-there f at none eo =
-        stepped _ (did-ask (p .0) (k .0) (numbersOf ks) lp first f at eo) (and-then (turn (k .0) ready none) left (turned _ k ready none known)) delivery-limit
+        stepped _ (did-ask (p .0) (k .0) (numbersOf ks) lp first f at eo)
+        (and-then (turn (k .0) ready none) left (turned _ k ready none known)) delivery-limit
     taken-there f at (some x) eo =
         stepped _ (did-respond (p .0) (k .0) (numbersOf ks) x lp first f at eo)
         (and-then (λ s. join (channel σ k .sender .0) (k .0) (turn (k .0) (answering x) none s)) left
@@ -193,7 +194,8 @@ module _ (L : Limits) (σ : Network) (h : Started L σ) where
   move-did p =
       if-there (p .0) (nodeCount σ) _ _ _ λ lp.
       by-list (node σ p .buffer) (λ none. rw none not-done) λ k ks e.
-      rw e (handed-over p k ks lp e _ (arrives-as σ _ k (first-moving (netOf σ) (stateOf σ) tables (p .0) (k .0) (numbersOf ks) lp (ap numbersOf e))))
+      let moves = first-moving (netOf σ) (stateOf σ) tables (p .0) (k .0) (numbersOf ks) lp (ap numbersOf e) in
+      rw e (handed-over p k ks lp e _ (arrives-as σ _ k moves))
 
   -- every call on a sound started ring
 

@@ -64,7 +64,8 @@ before-reads : (σ : Network) →
 unfolding soundBefore
 before-reads σ =
     three-read
-    (each-below (channelCount σ) (λ k. two-read (resting-reads (channel σ (channelNo k) .phase)) (absent-reads (channel σ (channelNo k) .offer))))
+    (each-below (channelCount σ)
+    (λ k. two-read (resting-reads (channel σ (channelNo k) .phase)) (absent-reads (channel σ (channelNo k) .offer))))
     (each-below (nodeCount σ) (λ p. not-reads (node σ (nodeNo p) .mark)))
     (eqb-reads (σ .deliveries) 0)
 

@@ -2,7 +2,7 @@
 -- words of the theory's `Sound`, so a started ring passes the test exactly when its tables are `Sound` and its sizes are within the
 -- limits. Assumes nothing.
 use Prim.Native.Nat.{ℕ, _≤_, _<_}
-use mathlib.Core.Path.{_≡_, refl}
+use mathlib.Core.Path.{_≡_}
 use mathlib.Core.Logic.{_↔_}
 use mathlib.Core.Bool.{true, cond}
 use mathlib.Core.Option.{none}

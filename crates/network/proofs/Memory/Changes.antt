@@ -129,7 +129,8 @@ module _ (σ : Network) (fits : Fits σ) where
         numbers noChannel channelRoom (σ .channels) (λ s. offeredFlag (s .offer)) (set (σ .channels) k other) ≡ offered →
         cells noChannel channelRoom (σ .channels) recordLength (λ s. offerBytes (s .offer)) (set (σ .channels) k other) ≡ offers →
         cells noChannel channelRoom (σ .channels) recordLength (λ s. carriedBytes (s .phase)) (set (σ .channels) k other) ≡ carried →
-        hold (withChannel (channelNo k) f o σ) ≡ ringIn (withChannels (hold σ .head) phases offered) (hold σ .slots) (hold σ .lines) offers carried
+        hold (withChannel (channelNo k) f o σ)
+        ≡ ringIn (withChannels (hold σ .head) phases offered) (hold σ .slots) (hold σ .lines) offers carried
     unfolding hold holdHead
     hold-with-channel ep eo ef ec =
         λ i.

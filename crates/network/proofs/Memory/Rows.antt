@@ -148,7 +148,9 @@ cells-append js ks = map-append (λ (k : ChannelNo). suc (k .0)) js ks
 
 -- a queue that fits a row is read off its cells
 pub queue-cells : (n : ℕ) (xs : List ChannelNo) → length xs ≤ n → queueOf (length xs) (padded n (cellsOf xs)) ≡ xs
-queue-cells n xs l = rw (padded-front n (length xs) (cellsOf xs) (length-cells xs) l) (map-back (λ (k : ChannelNo). suc (k .0)) (λ cell. channelNo (pred cell)) (λ k. refl) xs)
+queue-cells n xs l =
+    rw (padded-front n (length xs) (cellsOf xs) (length-cells xs) l)
+    (map-back (λ (k : ChannelNo). suc (k .0)) (λ cell. channelNo (pred cell)) (λ k. refl) xs)
 
 -- one more at the end of the queue is one store, and the first leaves it by a shift of the cells, with a zero at the end
 pub cells-push : (n : ℕ) (xs : List ChannelNo) (k : ChannelNo) → length xs < n →

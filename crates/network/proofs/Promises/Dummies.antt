@@ -166,7 +166,8 @@ each-can-fail =
       hops-left-leaves = λ h. false≢true (sym (ap (λ σ. σ .started) (h fresh)));
       waiting-set-leaves = λ h. false≢true (sym (ap (λ σ. σ .started) (h fresh)));
       each = λ h.
-          let e : _≡_ {A = ℕ} 6 5 = ap (λ l. number-of (getD l 0 (says 0) .values)) (h inLine (hopsLeft c0 ∷ []) refl .same-answers) in omega arith;
+          let e : _≡_ {A = ℕ} 6 5 = ap (λ l. number-of (getD l 0 (says 0) .values)) (h inLine (hopsLeft c0 ∷ []) refl .same-answers) in
+          omega arith;
       unsound = λ h. let e : _≡_ {A = ℕ} 1 25 = ap (λ l. getD l 0 (says 0) .number) (h broken (start ∷ []) refl .all-25) in omega arith;
       served = demand3-rejects .moves-nothing;
       in-order = not-offered c0 workedRecord (λ a σ. σ);

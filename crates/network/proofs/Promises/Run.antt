@@ -79,7 +79,8 @@ module _ {S : Type 0} (step : Call → S → Outcome S) (m : ChannelNo) (x : Bat
 -- Order: what is offered on channel k and not yet delivered is pending in the ring. Kept: what holds of every ring of the run.
 module _ {S : Type 0} (step : Call → S → Outcome S) (k : ChannelNo) (Kept : S → Type 0) (pending : S → List BatchRecord)
     (keeps : (a : Call) (s : S) → Kept s → Kept (after s (step a s)))
-    (balance : (a : Call) (s : S) → Kept s → pending s ++ offeredBy k a (step a s) ≡ deliveredBy k (step a s) ++ pending (after s (step a s))) where
+    (balance : (a : Call) (s : S) → Kept s →
+    pending s ++ offeredBy k a (step a s) ≡ deliveredBy k (step a s) ++ pending (after s (step a s))) where
   pub run-order : (calls : List Call) (s : S) → Kept s →
       pending s ++ offeredOn step k calls s ≡ deliveredOn step k calls s ++ pending (run step calls s)
   run-order [] s u = append-nil _

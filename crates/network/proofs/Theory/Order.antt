@@ -53,7 +53,8 @@ module _ (N : Net) where
   in-order-step {σ} s (did-receive k l r) j =
       at-channel σ k j asking (σ .offer k) [] [] (λ e. rw r (append-nil _)) (λ d. (refl, refl))
   in-order-step {σ} s (did-offer k x l g o r) j =
-      at-channel σ k j (σ .phase k) (some x) (onChannel (channelNo j) (channelNo k) x) [] (λ e. rw (on-same j k x e, o, append-nil)) (λ d. (on-other j k x d, refl))
+      at-channel σ k j (σ .phase k) (some x) (onChannel (channelNo j) (channelNo k) x) [] (λ e. rw (on-same j k x e, o, append-nil))
+      (λ d. (on-other j k x d, refl))
   in-order-step {σ} s (did-answer k x l g r) j =
       at-channel σ k j (answering x) none (onChannel (channelNo j) (channelNo k) x) [] (λ e. rw (on-same j k x e, r, s .ready-bare k l r))
       (λ d. (on-other j k x d, refl))
