@@ -5,28 +5,16 @@ use Prim.Native.Nat.{ℕ, _+_}
 use mathlib.Core.Bool.{Bool, true, false}
 use mathlib.Core.List.{List, [], _∷_, _++_, map}
 use mathlib.Core.Option.{Option, none}
-use lib.Dec.{eqb, ltb}
+use lib.Dec.{ltb}
 use lib.ListN.{length, getD, set}
 use Rattle.batch.specs.declared.BatchRecord.{BatchRecord}
 use Rattle.numbers.specs.declared.NodeNo.{NodeNo}
 use Rattle.numbers.specs.declared.ChannelNo.{ChannelNo}
+pub use Rattle.numbers.specs.Numbers.{nodeNo, channelNo, sameNode, sameChannel}
 use Rattle.hops.specs.Hops.{hops, next}
 use Rattle.network.specs.Counting.{sum, count}
 
--- a plain number as that of a node or a channel; which numbers are the same; the numbers of a buffer or a line, and how many times
--- channel k stands in it
-abbrev pub nodeNo : ℕ → NodeNo
-nodeNo p = record { 0 = p }
-
-abbrev pub channelNo : ℕ → ChannelNo
-channelNo k = record { 0 = k }
-
-abbrev pub sameNode : NodeNo → NodeNo → Bool
-sameNode p q = eqb (p .0) (q .0)
-
-abbrev pub sameChannel : ChannelNo → ChannelNo → Bool
-sameChannel j k = eqb (j .0) (k .0)
-
+-- the numbers of a buffer or a line, and how many times channel k stands in it
 abbrev pub numbersOf : List ChannelNo → List ℕ
 numbersOf ks = map (λ (k : ChannelNo). k .0) ks
 
