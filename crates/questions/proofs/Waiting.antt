@@ -9,12 +9,13 @@ use lib.Count.{ones, onesIn, ones-cat}
 use lib.Dec.{eqb}
 use lib.Pow.{pow-mono}
 use borrow.Author.Tests.{lt-ltb}
+use Rattle.numbers.specs.declared.NodeNo.{NodeNo}
 use Rattle.network.specs.declared.Head.{Head}
 use Rattle.network.specs.declared.Ring.{Ring}
 use Rattle.network.specs.Counting.{one, sum}
-use Rattle.network.specs.Network.{Network, Phase, resting, asking, ready, answering, nodeCount, channelCount, channel}
+use Rattle.network.specs.Network.{Network, Phase, resting, asking, ready, answering, nodeNo, channelNo, nodeCount, channelCount, channel}
 use Rattle.network.specs.Sound.{isResting}
-use Rattle.network.specs.Calls.{waitingAre, accepted, waitingOf}
+use Rattle.network.specs.Calls.{waitingAre, accepted, waits, waitingOf}
 use Rattle.network.specs.Calls
 use Rattle.network.specs.Runs
 use Rattle.network.specs.Layout.{channelRoom, phaseCode, view, callRing}
@@ -24,7 +25,7 @@ use Rattle.network.proofs.Memory.Held.{SoundRing, sound-ring}
 use Rattle.updates.specs.Flat.{receiverAt, phaseAt}
 use Rattle.updates.specs.Known.{AskedAt}
 use Rattle.updates.proofs.Openings.{sound-called}
-use Rattle.questions.specs.Asked.{waits, waitsAt, bits, waitingIn}
+use Rattle.questions.specs.Asked.{waitsAt, bits, waitingIn}
 
 -- the bits of the channels, by their numbers and as the definitions say
 
@@ -60,23 +61,23 @@ module _ {ring : Ring} {p : ℕ} (h : AskedAt ring p) where
   known : SoundRing ring
   known = sound-ring ring (h .ok)
 
-  waits-here : (k : ℕ) → k < channelCount (view ring) → one (waits p (channel (view ring) k)) ≡ waitsAt (ring .head) p k
+  waits-here : (k : ℕ) → k < channelCount (view ring) → one (waits (nodeNo p) (channel (view ring) (channelNo k))) ≡ waitsAt (ring .head) p k
   waits-here k l =
       let c = known .holds .channels k (omega (arith, known .fits .channels-fit)) in
-      rw (c .receiver, c .phase, at-rest (channel (view ring) k .phase))
+      rw (c .receiver, c .phase, at-rest (channel (view ring) (channelNo k) .phase))
 
-  waiting-found : waitingOf (view ring) p ≡ waitingIn (ring .head) p
+  waiting-found : waitingOf (view ring) (nodeNo p) ≡ waitingIn (ring .head) p
   unfolding waitingOf
   waiting-found =
-      sum-same (channelCount (view ring)) (λ k. 2 ^ k * one (waits p (channel (view ring) k)))
+      sum-same (channelCount (view ring)) (λ k. 2 ^ k * one (waits (nodeNo p) (channel (view ring) (channelNo k))))
       (λ k. 2 ^ k * waitsAt (ring .head) p k) (λ k l. rw (waits-here k l))
       ∙ ap (bits (waitsAt (ring .head) p)) (sym (known .holds .channel-count))
 
-  pub waiting-answered : callRing (Runs.waitingSet p) ring ≡ accepted (waitingAre (waitingIn (ring .head) p)) ring
+  pub waiting-answered : callRing (Runs.waitingSet (nodeNo p)) ring ≡ accepted (waitingAre (waitingIn (ring .head) p)) ring
   unfolding Calls.waitingSet
   waiting-answered =
       let there : p < nodeCount (view ring) = omega (arith, known .holds .node-count, h .there) in
-      rw (sound-called (Runs.waitingSet p) ring (h .ok), lt-ltb _ _ there)
+      rw (sound-called (Runs.waitingSet (nodeNo p)) ring (h .ok), lt-ltb _ _ there)
       (λ i. accepted (waitingAre (waiting-found i)) (known .laid-out i))
 
 -- the ones of a set of bits are counted one by one
@@ -104,6 +105,7 @@ ones-counted b (suc n) =
     (add-comm (one (b n)) (sum n (λ k. one (b k))))
 
 -- How many tasks of node p wait is how many channels have p as their receiver and are not resting.
-pub tasks-counted : (σ : Network) (p : ℕ) → ones (waitingOf σ p) ≡ sum (channelCount σ) (λ k. one (waits p (channel σ k)))
+pub tasks-counted : (σ : Network) (p : NodeNo) →
+    ones (waitingOf σ p) ≡ sum (channelCount σ) (λ k. one (waits p (channel σ (channelNo k))))
 unfolding waitingOf
-tasks-counted σ p = ones-counted (λ k. waits p (channel σ k)) (channelCount σ)
+tasks-counted σ p = ones-counted (λ k. waits p (channel σ (channelNo k))) (channelCount σ)

@@ -4,6 +4,7 @@ use mathlib.Core.List.{List, [], _∷_, _++_}
 use mathlib.Core.Option.{Option, none, some}
 use lib.ListN.{take}
 use Rattle.batch.specs.declared.BatchRecord.{BatchRecord}
+use Rattle.numbers.specs.declared.ChannelNo.{ChannelNo}
 use Rattle.network.specs.declared.Reply.{Reply}
 use Rattle.network.specs.Calls.{Delivery}
 use Rattle.network.specs.Answers.{numberIn, deliveredIn}
@@ -42,9 +43,9 @@ nameField [] = []
 nameField (byte ∷ bytes) = space ∷ byte ∷ bytes
 
 -- channel, batch number, vessel, temperature, name length and name. A length over the name's 32 cells takes all of them.
-unfoldable pub recordFields : ℕ → BatchRecord → List ℕ
+unfoldable pub recordFields : ChannelNo → BatchRecord → List ℕ
 recordFields channel x =
-    field channel
+    field (channel .0)
     ++ field (x .batch .0)
     ++ field (x .vessel)
     ++ (space ∷ signed (x .temperature))

@@ -39,7 +39,7 @@ fn refusal_in(answer: Answer) -> u8
 // What a delivery has after the refusal's number. The word takes 10 bytes, a number and its space 11, a signed one 12, a name 33.
 fn push_record(text: &mut [u8], at: usize, channel: ChannelNo, delivered: BatchRecord) -> usize
     requires { ⌜ at + 99 ≤ length (now text) ⌝ }
-    ensures { λ r. ⌜ Appends (now (text .entry)) (now (text .exit)) at r (deliveredBytes ++ recordFields (channel .0) delivered) 99 ⌝ }
+    ensures { λ r. ⌜ Appends (now (text .entry)) (now (text .exit)) at r (deliveredBytes ++ recordFields channel delivered) 99 ⌝ }
 {
     let channel_number = channel.0;
     let batch_number = delivered.batch.0;
