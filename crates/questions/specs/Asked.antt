@@ -8,8 +8,6 @@ use lib.ListN.{getD}
 use Rattle.hops.specs.Hops.{sheetHops}
 use Rattle.network.specs.declared.Head.{Head}
 use Rattle.network.specs.Counting.{one, sum}
-use Rattle.network.specs.Network.{ChannelState}
-use Rattle.network.specs.Sound.{isResting}
 use Rattle.network.specs.Layout.{nodeRoom, channelRoom, rowLength}
 use Rattle.updates.specs.Flat.{usedAt, senderAt, receiverAt, phaseAt}
 
@@ -45,11 +43,7 @@ hopsIn h slots k =
     (cond (eqb (phaseAt h k) 1) (wayIn h slots k (receiverAt h k) (senderAt h k) + backIn h k)
     (wayIn h slots k (senderAt h k) (receiverAt h k))))
 
--- the channel's receiver is node p, and it is not resting
-abbrev pub waits : ℕ → ChannelState → Bool
-waits p s = eqb (s .receiver) p && not (isResting (s .phase))
-
--- the same as a bit, by the numbers of the receiver and the phase
+-- a channel that waits at node p (Tasks.antt) as a bit, by the numbers of its receiver and its phase
 abbrev pub waitsBy : ℕ → ℕ → ℕ → ℕ
 waitsBy p receiver phase = one (eqb receiver p && not (eqb phase 0))
 
