@@ -6,7 +6,7 @@ use mathlib.Core.Bool.{Bool, true, false, _&&_, not}
 use native.Mathlib.Nat.{pow-suc, mul-assoc, mul-add, mul-comm, add-comm, lt-of-lt-of-le}
 use native.Mathlib.Omega.{arith}
 use lib.Count.{ones, onesIn, ones-cat}
-use lib.Dec.{eqb}
+use lib.Dec.{eqb, ltb}
 use lib.Pow.{pow-mono}
 use borrow.Author.Tests.{lt-ltb}
 use Rattle.numbers.specs.declared.NodeNo.{NodeNo}
@@ -18,7 +18,7 @@ use Rattle.network.specs.Sound.{isResting}
 use Rattle.network.specs.Calls.{waitingAre, accepted, waits, waitingOf}
 use Rattle.network.specs.Calls
 use Rattle.network.specs.Runs
-use Rattle.network.specs.Layout.{channelRoom, phaseCode, view, callRing}
+use Rattle.network.specs.Layout.{channelRoom, phaseCode, view, soundRing, callRing}
 use Rattle.network.proofs.Ground.Splits.{by-test}
 use Rattle.network.proofs.Ground.Counting.{sum-same, one-most}
 use Rattle.network.proofs.Memory.Held.{SoundRing, sound-ring}
@@ -26,6 +26,7 @@ use Rattle.updates.specs.Flat.{receiverAt, phaseAt}
 use Rattle.updates.specs.Known.{AskedAt}
 use Rattle.updates.proofs.Openings.{sound-called}
 use Rattle.questions.specs.Asked.{waitsAt, bits, waitingIn}
+use Rattle.questions.specs.Tasks.{OnesAreTasks, TasksSaid}
 
 -- the bits of the channels, by their numbers and as the definitions say
 
@@ -104,8 +105,14 @@ ones-counted b (suc n) =
     rw (turned, ones-cat n (one (b n)) rest (bits-below b n), ones-one (b n), ones-counted b n)
     (add-comm (one (b n)) (sum n (λ k. one (b k))))
 
--- How many tasks of node p wait is how many channels have p as their receiver and are not resting.
-pub tasks-counted : (σ : Network) (p : NodeNo) →
-    ones (waitingOf σ p) ≡ sum (channelCount σ) (λ k. one (waits p (channel σ (channelNo k))))
+pub ones-are-tasks : OnesAreTasks
 unfolding waitingOf
-tasks-counted σ p = ones-counted (λ k. waits p (channel σ (channelNo k))) (channelCount σ)
+ones-are-tasks σ p = ones-counted (λ k. waits p (channel σ (channelNo k))) (channelCount σ)
+
+-- an unsound ring, no such node, or the ones of the set: each is what document 01 says
+pub tasks-said : TasksSaid
+unfolding callRing Calls.waitingSet
+tasks-said node ring =
+    by-test (soundRing ring) (λ ok.
+    by-test (ltb (node .0) (nodeCount (view ring))) (λ there. rw (ok, there, ones-are-tasks (view ring) node)) (λ none. rw (ok, none)))
+    (λ unsound. rw unsound)

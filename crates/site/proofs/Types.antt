@@ -1,4 +1,4 @@
--- The kinds (Params.antt) of what the nine calls take and answer, and the step as a pair (Walk.antt) of a ring and a reply. Assumes
+-- The kinds (Params.antt) of what the calls take and answer, and the step as a pair (Walk.antt) of a ring and a reply. Assumes
 -- nothing.
 use mathlib.Core.List.{[], _∷_}
 use denote.Struct.Laws as LL
@@ -16,6 +16,8 @@ use Rattle.network.proofs.RingCall as K
 use Rattle.network.proofs.RingCall.Laws as K′
 use Rattle.network.proofs.Step as S
 use Rattle.network.proofs.Step.Laws as S′
+use Rattle.questions.proofs.Tasks as T
+use Rattle.questions.proofs.Tasks.Laws as T′
 use Rattle.site.proofs.Values.{parts}
 use Rattle.site.proofs.Params.{Kind, struct-kind, enum-kind}
 use Rattle.site.proofs.Walk.{Paired}
@@ -34,6 +36,9 @@ ring-call = enum-kind K.the-type K′.the-laws tt K′.the-copy
 
 abbrev pub answer : Kind
 answer = enum-kind A.the-type A′.the-laws tt A′.the-copy
+
+abbrev pub tasks : Kind
+tasks = enum-kind T.the-type T′.the-laws tt T′.the-copy
 
 abbrev pub reply : Kind
 reply = struct-kind P.the-type P′.the-laws P′.the-copy

@@ -5,11 +5,12 @@
 // - for its tasks, `receive` and `send`, which reply `Done`;
 // - to keep the messages going, `enter` and `move_on`, at any node it likes. They reply `Done`; a move that delivers replies
 //   `Delivered` with the channel, and the record stands beside it in the reply;
-// - to look, `hops_left`, which answers `Hops`, and `waiting_set`, which answers `Waiting`. They only read the ring.
+// - to look, `hops_left`, which answers `Hops`, `waiting_set`, which answers `Waiting`, and `tasks_waiting`, which answers how many tasks
+//   of a node wait: the ones of that set. They only read the ring.
 //
-// Any of them says `Refused` with the first refusal that applies, and then the ring is as it was; an unsound ring is refused by all
-// nine. The same call by value, of `plan`, `tasks`, `traffic` or `questions`, does the work, and each contract is that call's: what
-// it returns is the whole ring afterwards and the reply.
+// Any of them says `Refused` with the first refusal that applies, and then the ring is as it was; an unsound ring is refused by all.
+// The same call by value, of `plan`, `tasks`, `traffic` or `questions`, does the work, and each contract is that call's: what it
+// returns is the whole ring afterwards and the reply.
 use batch::BatchRecord;
 use network::Answer;
 use network::Reply;
@@ -17,9 +18,11 @@ use network::Ring;
 use network::RingCall;
 use numbers::ChannelNo;
 use numbers::NodeNo;
+use questions::Tasks;
 ghost use mathlib.Core.Path.{_≡_};
 ghost use Rattle.network.specs.Answers.{callOf};
 ghost use Rattle.network.specs.Runs;
+ghost use Rattle.questions.specs.Tasks.{tasksTo, saidIn, tasksSaid};
 ghost use Rattle.site.specs.InPlace.{ringAfter, replyTo, answerTo};
 
 // Adds a node with so many slots.
@@ -104,6 +107,13 @@ pub fn waiting_set(ring: &Ring, node: NodeNo) -> Answer
     ensures { λ r. ⌜ r ≡ answerTo (Runs.waitingSet node) (now (ring .entry)) ⌝ }
 {
     questions::waiting_set(*ring, node)
+}
+
+// How many tasks of a node wait: the number of ones in its waiting set.
+pub fn tasks_waiting(ring: &Ring, node: NodeNo) -> Tasks
+    ensures { λ r. ⌜ (r ≡ tasksTo node (now (ring .entry))) × (saidIn r ≡ tasksSaid node (now (ring .entry))) ⌝ }
+{
+    questions::tasks_waiting(*ring, node)
 }
 
 // Makes any of the ring calls, told by its name; the record is that of a send and plays no part in another call.
