@@ -1,17 +1,16 @@
 // The report of the tape program: each of its lines as bytes put into a lent buffer, the whole line where it fits and nothing
 // where it does not. A line is built in a text of its own first, so a refusal leaves the buffer as it was.
-mod text;
-
 use batch::BatchRecord;
 use network::Answer;
 use network::Reply;
 use numbers::ChannelNo;
+use text;
 ghost use mathlib.Core.List.{_++_};
 ghost use mathlib.Core.Path.{_≡_};
 ghost use Prim.Native.Nat.{_+_, _≤_};
 ghost use lib.ListN.{length};
 ghost use Rattle.network.specs.Answers.{numberIn, deliveredIn};
-ghost use Rattle.report.specs.Appends.{Appends};
+ghost use Rattle.text.specs.Appends.{Appends};
 ghost use Rattle.report.specs.Line.{lineRoom, deliveredBytes, recordFields, deliveryBytes, lineOf, endOf, tooLong};
 ghost use Rattle.report.specs.Put.{putAnswer, put};
 
