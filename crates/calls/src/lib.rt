@@ -1,33 +1,60 @@
-// The list of the ring calls: `perform` makes any of them, on a ring by value or, in `lent`, on a ring whose parts are lent. A call that is
-// added to the ring has one line in `lent::perform`, and whoever makes calls by name goes through here.
-pub mod lent;
-
+// The list of the ring calls: `perform` makes any of them on a ring whose cells and records are lent; the head goes by value. A call that
+// is added to the ring has one line here, and whoever makes calls by name goes through here.
 use batch::BatchRecord;
-use network::Ring;
+use network::Answer;
+use network::Cells;
+use network::Head;
+use network::HeadStep;
+use network::Records;
+use network::Reply;
 use network::RingCall;
-use network::Step;
-use updates::answer;
+use plan::add_channel;
+use plan::add_node;
+use plan::start;
+use questions::hops_left;
+use questions::waiting_set;
+use tasks::receive;
+use tasks::send;
+use traffic::enter;
+use traffic::move_on;
 ghost use mathlib.Core.Path.{_≡_};
+ghost use Rattle.batch.specs.Blank.{noRecord};
 ghost use Rattle.network.specs.Answers.{callOf, stepOf};
-ghost use Rattle.network.specs.Layout.{callRing};
+ghost use Rattle.network.specs.Layout.{callRing, ringIn, stepIn};
 
-// The call, with the record of a send beside it: the ring after the call, and the reply.
-pub fn perform(ring: Ring, call: RingCall, record: BatchRecord) -> Step
-    ensures { λ r. ⌜ r ≡ stepOf ring (callRing (callOf call «record») ring) ⌝ }
+// A question leaves the ring as it is, and no record stands beside its answer.
+fn asked(head: Head, answer: Answer) -> HeadStep
+    ensures { λ r. ⌜ r ≡ record { head = head; reply = record { answer = answer; delivered = noRecord } } ⌝ }
 {
-    let head = ring.head;
-    let mut slots = ring.slots;
-    let mut lines = ring.lines;
-    let mut offers = ring.offers;
-    let mut carried = ring.carried;
-    let after = lent::perform(
-        head,
-        &mut slots,
-        &mut lines,
-        &mut offers,
-        &mut carried,
-        call,
-        record,
-    );
-    answer::whole(after, slots, lines, offers, carried)
+    let delivered = BatchRecord::none();
+    let reply = Reply { answer, delivered };
+    HeadStep { head, reply }
+}
+
+// The call, with the record of a send beside it.
+pub fn perform(
+    head: Head,
+    slots: &mut Cells,
+    lines: &mut Cells,
+    offers: &mut Records,
+    carried: &mut Records,
+    call: RingCall,
+    record: BatchRecord,
+) -> HeadStep
+    ensures { λ r. ⌜ stepIn r (now (slots .exit)) (now (lines .exit)) (now (offers .exit)) (now (carried .exit))
+        ≡ stepOf (ringIn head (now (slots .entry)) (now (lines .entry)) (now (offers .entry)) (now (carried .entry)))
+        (callRing (callOf call «record»)
+        (ringIn head (now (slots .entry)) (now (lines .entry)) (now (offers .entry)) (now (carried .entry)))) ⌝ }
+{
+    match call {
+        RingCall::AddNode(n) => add_node(head, slots, lines, offers, carried, n),
+        RingCall::AddChannel(p, q) => add_channel(head, slots, lines, offers, carried, p, q),
+        RingCall::Start => start(head, slots, lines, offers, carried),
+        RingCall::Receive(k) => receive(head, slots, lines, offers, carried, k),
+        RingCall::Send(k) => send(head, slots, lines, offers, carried, k, record),
+        RingCall::Enter(p) => enter(head, slots, lines, offers, carried, p),
+        RingCall::Move(p) => move_on(head, slots, lines, offers, carried, p),
+        RingCall::HopsLeft(k) => asked(head, hops_left(head, slots, lines, offers, carried, k)),
+        RingCall::WaitingSet(p) => asked(head, waiting_set(head, slots, lines, offers, carried, p)),
+    }
 }

@@ -1,53 +1,124 @@
 // The plan of a ring: nodes and channels are added, then the ring is started.
 //
-// A call takes a ring by value with its operands, and answers the ring after the call and the reply. It takes the ring apart and makes the
-// call on its parts, which stands in `lent`.
-pub mod lent;
-
+// Each takes the head of a ring by value, with the cells and the records lent where they lie, and answers the head after the call and the
+// reply. It opens as every call does; then come its own refusals in the order of document 01, and a refusal leaves the ring as it was.
+use network::Cells;
+use network::Head;
+use network::HeadStep;
+use network::Records;
 use network::Ring;
-use network::Step;
 use numbers::NodeNo;
-use updates::answer;
+use refusal::Refusal;
+use soundness;
+use updates::answer::accept;
+use updates::answer::refuse;
+use updates::opening::Opening;
+use updates::opening::Subject;
+use updates::opening::open;
 ghost use mathlib.Core.Path.{_≡_};
 ghost use Rattle.network.specs.Answers.{stepOf};
-ghost use Rattle.network.specs.Layout.{callRing};
+ghost use Rattle.network.specs.Layout.{callRing, ringIn, stepIn};
 ghost use Rattle.network.specs.Runs;
 
 // A node with so many slots comes after the others, with nothing in it.
-pub fn add_node(ring: Ring, capacity: u8) -> Step
-    ensures { λ r. ⌜ r ≡ stepOf ring (callRing (Runs.addNode capacity) ring) ⌝ }
+pub fn add_node(
+    mut head: Head,
+    slots: &Cells,
+    lines: &Cells,
+    offers: &Records,
+    carried: &Records,
+    capacity: u8,
+) -> HeadStep
+    ensures { λ r. ⌜ stepIn r (now (slots .entry)) (now (lines .entry)) (now (offers .entry)) (now (carried .entry))
+        ≡ stepOf (ringIn head (now (slots .entry)) (now (lines .entry)) (now (offers .entry)) (now (carried .entry)))
+        (callRing (Runs.addNode capacity)
+        (ringIn head (now (slots .entry)) (now (lines .entry)) (now (offers .entry)) (now (carried .entry)))) ⌝ }
 {
-    let head = ring.head;
-    let slots = ring.slots;
-    let lines = ring.lines;
-    let offers = ring.offers;
-    let carried = ring.carried;
-    let after = lent::add_node(head, &slots, &lines, &offers, &carried, capacity);
-    answer::whole(after, slots, lines, offers, carried)
+    let opening = open(head, slots, lines, offers, carried, Subject::Plan);
+    if let Opening::Refused(refusal) = opening {
+        return refuse(head, refusal);
+    }
+    let count = head.node_count;
+    if Ring::MOST_NODES <= count {
+        return refuse(head, Refusal::NodesFull);
+    }
+    if capacity < 1 {
+        return refuse(head, Refusal::BadSlots);
+    }
+    if Ring::MOST_SLOTS < capacity {
+        return refuse(head, Refusal::BadSlots);
+    }
+    head.capacity[count as usize] = capacity;
+    head.node_count = count + 1;
+    accept(head)
 }
 
 // A channel between two nodes comes after the others, at rest.
-pub fn add_channel(ring: Ring, sender: NodeNo, receiver: NodeNo) -> Step
-    ensures { λ r. ⌜ r ≡ stepOf ring (callRing (Runs.addChannel sender receiver) ring) ⌝ }
+pub fn add_channel(
+    mut head: Head,
+    slots: &Cells,
+    lines: &Cells,
+    offers: &Records,
+    carried: &Records,
+    sender: NodeNo,
+    receiver: NodeNo,
+) -> HeadStep
+    ensures { λ r. ⌜ stepIn r (now (slots .entry)) (now (lines .entry)) (now (offers .entry)) (now (carried .entry))
+        ≡ stepOf (ringIn head (now (slots .entry)) (now (lines .entry)) (now (offers .entry)) (now (carried .entry)))
+        (callRing (Runs.addChannel sender receiver)
+        (ringIn head (now (slots .entry)) (now (lines .entry)) (now (offers .entry)) (now (carried .entry)))) ⌝ }
 {
-    let head = ring.head;
-    let slots = ring.slots;
-    let lines = ring.lines;
-    let offers = ring.offers;
-    let carried = ring.carried;
-    let after = lent::add_channel(head, &slots, &lines, &offers, &carried, sender, receiver);
-    answer::whole(after, slots, lines, offers, carried)
+    let opening = open(head, slots, lines, offers, carried, Subject::Plan);
+    if let Opening::Refused(refusal) = opening {
+        return refuse(head, refusal);
+    }
+    let nodes = head.node_count;
+    let count = head.channel_count;
+    if Ring::MOST_CHANNELS <= count {
+        return refuse(head, Refusal::ChannelsFull);
+    }
+    if nodes <= sender.0 {
+        return refuse(head, Refusal::NoSuchEnd);
+    }
+    if nodes <= receiver.0 {
+        return refuse(head, Refusal::NoSuchEnd);
+    }
+    let k = count as usize;
+    head.senders[k] = sender.0;
+    head.receivers[k] = receiver.0;
+    head.channel_count = count + 1;
+    accept(head)
 }
 
 // The ring starts, if it has a node, a channel and more slots than channels.
-pub fn start(ring: Ring) -> Step
-    ensures { λ r. ⌜ r ≡ stepOf ring (callRing Runs.start ring) ⌝ }
+pub fn start(
+    mut head: Head,
+    slots: &Cells,
+    lines: &Cells,
+    offers: &Records,
+    carried: &Records,
+) -> HeadStep
+    ensures { λ r. ⌜ stepIn r (now (slots .entry)) (now (lines .entry)) (now (offers .entry)) (now (carried .entry))
+        ≡ stepOf (ringIn head (now (slots .entry)) (now (lines .entry)) (now (offers .entry)) (now (carried .entry)))
+        (callRing Runs.start
+        (ringIn head (now (slots .entry)) (now (lines .entry)) (now (offers .entry)) (now (carried .entry)))) ⌝ }
 {
-    let head = ring.head;
-    let slots = ring.slots;
-    let lines = ring.lines;
-    let offers = ring.offers;
-    let carried = ring.carried;
-    let after = lent::start(head, &slots, &lines, &offers, &carried);
-    answer::whole(after, slots, lines, offers, carried)
+    let opening = open(head, slots, lines, offers, carried, Subject::Plan);
+    if let Opening::Refused(refusal) = opening {
+        return refuse(head, refusal);
+    }
+    let channels = head.channel_count;
+    if head.node_count < 1 {
+        return refuse(head, Refusal::NothingToStart);
+    }
+    if channels < 1 {
+        return refuse(head, Refusal::NothingToStart);
+    }
+    // Nodes that were not added have no slots.
+    let capacity = head.capacity;
+    if soundness::slot_count(capacity) <= channels as usize {
+        return refuse(head, Refusal::TooFewSlots);
+    }
+    head.started = 1;
+    accept(head)
 }

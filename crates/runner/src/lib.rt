@@ -1,7 +1,7 @@
 // Runs a command tape: reads each command, calls the ring and writes the command's line of the listing into a lent buffer, as many
 // whole lines at a time as have room. A session is what is kept between two runs; it may be any value at all, so no run asks anything.
 use batch::BatchRecord;
-use calls::lent;
+use calls;
 use network::Answer;
 use network::Cells;
 use network::Head;
@@ -290,7 +290,7 @@ fn next_line(
             let action = command.action;
             let record = command.record;
             let call = ring_call(action);
-            let called = lent::perform(head, slots, lines, offers, carried, call, record);
+            let called = calls::perform(head, slots, lines, offers, carried, call, record);
             let reply = called.reply;
             let line = told(tape, tally, reply, next, out, at);
             let head = called.head;

@@ -9,8 +9,8 @@
 //   of a node wait: the ones of that set. They only read the ring.
 //
 // Any of them says `Refused` with the first refusal that applies, and then the ring is as it was; an unsound ring is refused by all.
-// The same call by value, of `plan`, `tasks`, `traffic` or `questions`, does the work, and each contract is that call's: what it
-// returns is the whole ring afterwards and the reply.
+// The same call of `by_value` does the work, and each contract is that call's: what it returns is the whole ring afterwards and the
+// reply.
 use batch::BatchRecord;
 use network::Answer;
 use network::Reply;
@@ -30,7 +30,7 @@ pub fn add_node(ring: &mut Ring, slots: u8) -> Reply
     ensures { λ r. ⌜ (now (ring .exit) ≡ ringAfter (Runs.addNode slots) (now (ring .entry)))
         × (r ≡ replyTo (Runs.addNode slots) (now (ring .entry))) ⌝ }
 {
-    let s = plan::add_node(*ring, slots);
+    let s = by_value::add_node(*ring, slots);
     *ring = s.ring;
     s.reply
 }
@@ -40,7 +40,7 @@ pub fn add_channel(ring: &mut Ring, sender: NodeNo, receiver: NodeNo) -> Reply
     ensures { λ r. ⌜ (now (ring .exit) ≡ ringAfter (Runs.addChannel sender receiver) (now (ring .entry)))
         × (r ≡ replyTo (Runs.addChannel sender receiver) (now (ring .entry))) ⌝ }
 {
-    let s = plan::add_channel(*ring, sender, receiver);
+    let s = by_value::add_channel(*ring, sender, receiver);
     *ring = s.ring;
     s.reply
 }
@@ -50,7 +50,7 @@ pub fn start(ring: &mut Ring) -> Reply
     ensures { λ r. ⌜ (now (ring .exit) ≡ ringAfter Runs.start (now (ring .entry)))
         × (r ≡ replyTo Runs.start (now (ring .entry))) ⌝ }
 {
-    let s = plan::start(*ring);
+    let s = by_value::start(*ring);
     *ring = s.ring;
     s.reply
 }
@@ -60,7 +60,7 @@ pub fn receive(ring: &mut Ring, channel: ChannelNo) -> Reply
     ensures { λ r. ⌜ (now (ring .exit) ≡ ringAfter (Runs.receive channel) (now (ring .entry)))
         × (r ≡ replyTo (Runs.receive channel) (now (ring .entry))) ⌝ }
 {
-    let s = tasks::receive(*ring, channel);
+    let s = by_value::receive(*ring, channel);
     *ring = s.ring;
     s.reply
 }
@@ -70,7 +70,7 @@ pub fn send(ring: &mut Ring, channel: ChannelNo, record: BatchRecord) -> Reply
     ensures { λ r. ⌜ (now (ring .exit) ≡ ringAfter (Runs.send channel «record») (now (ring .entry)))
         × (r ≡ replyTo (Runs.send channel «record») (now (ring .entry))) ⌝ }
 {
-    let s = tasks::send(*ring, channel, record);
+    let s = by_value::send(*ring, channel, record);
     *ring = s.ring;
     s.reply
 }
@@ -80,7 +80,7 @@ pub fn enter(ring: &mut Ring, node: NodeNo) -> Reply
     ensures { λ r. ⌜ (now (ring .exit) ≡ ringAfter (Runs.enter node) (now (ring .entry)))
         × (r ≡ replyTo (Runs.enter node) (now (ring .entry))) ⌝ }
 {
-    let s = traffic::enter(*ring, node);
+    let s = by_value::enter(*ring, node);
     *ring = s.ring;
     s.reply
 }
@@ -90,7 +90,7 @@ pub fn move_on(ring: &mut Ring, node: NodeNo) -> Reply
     ensures { λ r. ⌜ (now (ring .exit) ≡ ringAfter (Runs.move node) (now (ring .entry)))
         × (r ≡ replyTo (Runs.move node) (now (ring .entry))) ⌝ }
 {
-    let s = traffic::move_on(*ring, node);
+    let s = by_value::move_on(*ring, node);
     *ring = s.ring;
     s.reply
 }
@@ -99,21 +99,21 @@ pub fn move_on(ring: &mut Ring, node: NodeNo) -> Reply
 pub fn hops_left(ring: &Ring, channel: ChannelNo) -> Answer
     ensures { λ r. ⌜ r ≡ answerTo (Runs.hopsLeft channel) (now (ring .entry)) ⌝ }
 {
-    questions::hops_left(*ring, channel)
+    by_value::hops_left(*ring, channel)
 }
 
 // The channels on which a node's tasks wait, as a set of bits.
 pub fn waiting_set(ring: &Ring, node: NodeNo) -> Answer
     ensures { λ r. ⌜ r ≡ answerTo (Runs.waitingSet node) (now (ring .entry)) ⌝ }
 {
-    questions::waiting_set(*ring, node)
+    by_value::waiting_set(*ring, node)
 }
 
 // How many tasks of a node wait: the number of ones in its waiting set.
 pub fn tasks_waiting(ring: &Ring, node: NodeNo) -> Tasks
     ensures { λ r. ⌜ (r ≡ tasksTo node (now (ring .entry))) × (saidIn r ≡ tasksSaid node (now (ring .entry))) ⌝ }
 {
-    questions::tasks_waiting(*ring, node)
+    by_value::tasks_waiting(*ring, node)
 }
 
 // Makes any of the ring calls, told by its name; the record is that of a send and plays no part in another call.
@@ -121,7 +121,7 @@ pub fn perform(ring: &mut Ring, call: RingCall, record: BatchRecord) -> Reply
     ensures { λ r. ⌜ (now (ring .exit) ≡ ringAfter (callOf call «record») (now (ring .entry)))
         × (r ≡ replyTo (callOf call «record») (now (ring .entry))) ⌝ }
 {
-    let s = calls::perform(*ring, call, record);
+    let s = by_value::perform(*ring, call, record);
     *ring = s.ring;
     s.reply
 }

@@ -1,49 +1,89 @@
 // The calls at the ends of a channel: receive asks for a record, send offers one.
 //
-// A call takes a ring by value with its operands, and answers the ring after the call and the reply. It takes the ring apart and makes the
-// call on its parts, which stands in `lent`.
-pub mod lent;
-
+// Each takes the head of a ring by value, with the cells and the records lent where they lie, and answers the head after the call and the
+// reply. It opens as every call does; then come its own refusals in the order of document 01, and a refusal leaves the ring as it was.
+use batch;
 use batch::BatchRecord;
+use batch::Verdict;
+use network::Cells;
+use network::Head;
+use network::HeadStep;
+use network::Records;
 use network::Ring;
-use network::Step;
 use numbers::ChannelNo;
-use updates::answer;
+use refusal::Refusal;
+use updates::answer::accept;
+use updates::answer::refuse;
+use updates::opening::Opening;
+use updates::opening::Subject;
+use updates::opening::open;
 ghost use mathlib.Core.Path.{_≡_};
 ghost use Rattle.network.specs.Answers.{stepOf};
-ghost use Rattle.network.specs.Layout.{callRing};
+ghost use Rattle.network.specs.Layout.{callRing, ringIn, stepIn};
 ghost use Rattle.network.specs.Runs;
 
 // A resting channel becomes asking, and its request joins the receiver node's line.
-pub fn receive(ring: Ring, channel: ChannelNo) -> Step
-    ensures { λ r. ⌜ r ≡ stepOf ring (callRing (Runs.receive channel) ring) ⌝ }
+pub fn receive(
+    mut head: Head,
+    slots: &Cells,
+    lines: &mut Cells,
+    offers: &Records,
+    carried: &Records,
+    channel: ChannelNo,
+) -> HeadStep
+    ensures { λ r. ⌜ stepIn r (now (slots .entry)) (now (lines .exit)) (now (offers .entry)) (now (carried .entry))
+        ≡ stepOf (ringIn head (now (slots .entry)) (now (lines .entry)) (now (offers .entry)) (now (carried .entry)))
+        (callRing (Runs.receive channel)
+        (ringIn head (now (slots .entry)) (now (lines .entry)) (now (offers .entry)) (now (carried .entry)))) ⌝ }
 {
-    let head = ring.head;
-    let slots = ring.slots;
-    let mut lines = ring.lines;
-    let offers = ring.offers;
-    let carried = ring.carried;
-    let after = lent::receive(head, &slots, &mut lines, &offers, &carried, channel);
-    answer::whole(after, slots, lines, offers, carried)
+    let subject = Subject::Channel(channel);
+    let opening = open(head, slots, lines, offers, carried, subject);
+    if let Opening::Refused(refusal) = opening {
+        return refuse(head, refusal);
+    }
+    let k = channel.0 as usize;
+    if head.phases[k] != Ring::RESTING {
+        return refuse(head, Refusal::NotResting);
+    }
+    head.phases[k] = Ring::ASKING;
+    let receiver = head.receivers[k] as usize;
+    let asking = updates::join(head, lines, receiver, channel.0 + 1);
+    accept(asking)
 }
 
 // The record is offered. If the channel is ready, it becomes answering and the record goes out at once as the response.
-pub fn send(ring: Ring, channel: ChannelNo, record: BatchRecord) -> Step
-    ensures { λ r. ⌜ r ≡ stepOf ring (callRing (Runs.send channel «record») ring) ⌝ }
+pub fn send(
+    mut head: Head,
+    slots: &Cells,
+    lines: &mut Cells,
+    offers: &mut Records,
+    carried: &mut Records,
+    channel: ChannelNo,
+    record: BatchRecord,
+) -> HeadStep
+    ensures { λ r. ⌜ stepIn r (now (slots .entry)) (now (lines .exit)) (now (offers .exit)) (now (carried .exit))
+        ≡ stepOf (ringIn head (now (slots .entry)) (now (lines .entry)) (now (offers .entry)) (now (carried .entry)))
+        (callRing (Runs.send channel «record»)
+        (ringIn head (now (slots .entry)) (now (lines .entry)) (now (offers .entry)) (now (carried .entry)))) ⌝ }
 {
-    let head = ring.head;
-    let slots = ring.slots;
-    let mut lines = ring.lines;
-    let mut offers = ring.offers;
-    let mut carried = ring.carried;
-    let after = lent::send(
-        head,
-        &slots,
-        &mut lines,
-        &mut offers,
-        &mut carried,
-        channel,
-        record,
-    );
-    answer::whole(after, slots, lines, offers, carried)
+    let subject = Subject::Channel(channel);
+    let opening = open(head, slots, lines, offers, carried, subject);
+    if let Opening::Refused(refusal) = opening {
+        return refuse(head, refusal);
+    }
+    let verdict = batch::judge(record);
+    if let Verdict::Refused(refusal) = verdict {
+        return refuse(head, refusal);
+    }
+    let k = channel.0 as usize;
+    if head.offered[k] != 0 {
+        return refuse(head, Refusal::AlreadyOffered);
+    }
+    if head.phases[k] == Ring::READY {
+        let answering = updates::respond(head, lines, carried, channel.0, record);
+        return accept(answering);
+    }
+    updates::set_record(offers, k, record);
+    head.offered[k] = 1;
+    accept(head)
 }

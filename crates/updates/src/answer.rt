@@ -1,18 +1,11 @@
-// The two shapes of an answer that most calls give, a refusal, which changes nothing, and "done"; and the ring after a call, put together
-// of its parts.
+// The two shapes of an answer that most calls give: a refusal, which changes nothing, and "done".
 use batch::BatchRecord;
 use network::Answer;
-use network::Cells;
 use network::Head;
 use network::HeadStep;
-use network::Records;
 use network::Reply;
-use network::Ring;
-use network::Step;
 use refusal::Refusal;
 ghost use mathlib.Core.Path.{_≡_};
-ghost use Rattle.network.specs.declared.Ring.{Ring};
-ghost use Rattle.network.specs.Layout.{stepIn};
 ghost use Rattle.updates.specs.Answered.{refusedStep, doneStep};
 
 // A refusal answers its number alone and leaves the ring as it was.
@@ -37,20 +30,4 @@ pub fn accept(head: Head) -> HeadStep
         delivered: none,
     };
     HeadStep { head, reply }
-}
-
-// The ring after a call that was lent its parts.
-pub fn whole(after: HeadStep, slots: Cells, lines: Cells, offers: Records, carried: Records) -> Step
-    ensures { λ r. ⌜ r ≡ stepIn after slots lines offers carried ⌝ }
-{
-    let head = after.head;
-    let reply = after.reply;
-    let ring = Ring {
-        head,
-        slots,
-        lines,
-        offers,
-        carried,
-    };
-    Step { ring, reply }
 }

@@ -1,12 +1,12 @@
--- `site::enter` meets its contract: it is a call in place (Walk.antt) over `traffic::enter`. Assumes nothing.
+-- `site::enter` meets its contract: it is a call in place (Walk.antt) over `by_value::enter`. Assumes nothing.
 use mathlib.Core.Path.{refl}
 use mathlib.Core.List.{[], _∷_}
 use base.Logic.{emp}
 use contract.Monad.{factI}
 use Rattle.network.specs.Layout.{stepRing}
 use Rattle.network.specs.Runs
-use Rattle.traffic.proofs.enter.Symbol as by-value
-use Rattle.traffic.proofs.enter.Met.{met}
+use Rattle.by_value.proofs.enter.Symbol as by-value
+use Rattle.by_value.proofs.enter.Met.{met}
 use Rattle.site.proofs.Types.{node-no, reply, step}
 use Rattle.site.proofs.Walk.{in-place}
 use Rattle.site.proofs.enter as enter
@@ -19,4 +19,4 @@ unfolding code.routine
 enter-spec 𝓤 H 𝓜 𝓖 𝓡 =
     in-place reply step (node-no ∷ []) (λ ring a. stepRing (Runs.enter (a .0)) ring) 𝓤 H 𝓜 𝓖 𝓡
     (λ κs a. enter.clauses 𝓤 H (𝓖 .A) (𝓜 .mem) (𝓡 .run) κs a .ensures tt) (λ κs a ws. factI 𝓤 _ (emp 𝓤) (refl, refl))
-    code.env name by-value.name by-value.routine (code.unfolded 𝓤 H 𝓜 𝓡) code.calls-traffic·enter (met 𝓤 H 𝓜 𝓖 𝓡)
+    code.env name by-value.name by-value.routine (code.unfolded 𝓤 H 𝓜 𝓡) code.calls-by-value·enter (met 𝓤 H 𝓜 𝓖 𝓡)

@@ -1,12 +1,12 @@
--- `site::send` meets its contract: it is a call in place (Walk.antt) over `tasks::send`. Assumes nothing.
+-- `site::send` meets its contract: it is a call in place (Walk.antt) over `by_value::send`. Assumes nothing.
 use mathlib.Core.Path.{refl}
 use mathlib.Core.List.{[], _∷_}
 use base.Logic.{emp}
 use contract.Monad.{factI}
 use Rattle.network.specs.Layout.{stepRing}
 use Rattle.network.specs.Runs
-use Rattle.tasks.proofs.send.Symbol as by-value
-use Rattle.tasks.proofs.send.Met.{met}
+use Rattle.by_value.proofs.send.Symbol as by-value
+use Rattle.by_value.proofs.send.Met.{met}
 use Rattle.site.proofs.Types.{batch-record, channel-no, reply, step}
 use Rattle.site.proofs.Walk.{in-place}
 use Rattle.site.proofs.send as send
@@ -19,4 +19,4 @@ unfolding code.routine
 send-spec 𝓤 H 𝓜 𝓖 𝓡 =
     in-place reply step (channel-no ∷ batch-record ∷ []) (λ ring a. stepRing (Runs.send (a .0) (a .1 .0)) ring) 𝓤 H 𝓜 𝓖 𝓡
     (λ κs a. send.clauses 𝓤 H (𝓖 .A) (𝓜 .mem) (𝓡 .run) κs a .ensures tt) (λ κs a ws. factI 𝓤 _ (emp 𝓤) (refl, refl))
-    code.env name by-value.name by-value.routine (code.unfolded 𝓤 H 𝓜 𝓡) code.calls-tasks·send (met 𝓤 H 𝓜 𝓖 𝓡)
+    code.env name by-value.name by-value.routine (code.unfolded 𝓤 H 𝓜 𝓡) code.calls-by-value·send (met 𝓤 H 𝓜 𝓖 𝓡)

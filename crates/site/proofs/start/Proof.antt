@@ -1,12 +1,12 @@
--- `site::start` meets its contract: it is a call in place (Walk.antt) over `plan::start`. Assumes nothing.
+-- `site::start` meets its contract: it is a call in place (Walk.antt) over `by_value::start`. Assumes nothing.
 use mathlib.Core.Path.{refl}
 use mathlib.Core.List.{[]}
 use base.Logic.{emp}
 use contract.Monad.{factI}
 use Rattle.network.specs.Layout.{stepRing}
 use Rattle.network.specs.Runs
-use Rattle.plan.proofs.start.Symbol as by-value
-use Rattle.plan.proofs.start.Met.{met}
+use Rattle.by_value.proofs.start.Symbol as by-value
+use Rattle.by_value.proofs.start.Met.{met}
 use Rattle.site.proofs.Types.{reply, step}
 use Rattle.site.proofs.Walk.{in-place}
 use Rattle.site.proofs.start as start
@@ -19,4 +19,4 @@ unfolding code.routine
 start-spec 𝓤 H 𝓜 𝓖 𝓡 =
     in-place reply step [] (λ ring a. stepRing Runs.start ring) 𝓤 H 𝓜 𝓖 𝓡
     (λ κs a. start.clauses 𝓤 H (𝓖 .A) (𝓜 .mem) (𝓡 .run) κs a .ensures tt) (λ κs a ws. factI 𝓤 _ (emp 𝓤) (refl, refl))
-    code.env name by-value.name by-value.routine (code.unfolded 𝓤 H 𝓜 𝓡) code.calls-plan·start (met 𝓤 H 𝓜 𝓖 𝓡)
+    code.env name by-value.name by-value.routine (code.unfolded 𝓤 H 𝓜 𝓡) code.calls-by-value·start (met 𝓤 H 𝓜 𝓖 𝓡)

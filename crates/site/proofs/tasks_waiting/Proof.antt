@@ -1,4 +1,4 @@
--- `site::tasks_waiting` meets its contract: it is a question (Question.antt) over `questions::tasks_waiting`, of whose contract the walk
+-- `site::tasks_waiting` meets its contract: it is a question (Question.antt) over `by_value::tasks_waiting`, of whose contract the walk
 -- wants the first clause, the answer. Assumes nothing.
 use mathlib.Core.Path.{_≡_, refl}
 use mathlib.Core.List.{[], _∷_}
@@ -15,9 +15,9 @@ use Rattle.network.specs.declared.Ring.{Ring}
 use Rattle.questions.specs.declared.Tasks.{Tasks}
 use Rattle.questions.specs.Tasks.{tasksTo, saidIn, tasksSaid}
 use Rattle.questions.proofs.Waiting.{tasks-said}
-use Rattle.questions.proofs.tasks_waiting as by-value-clauses
-use Rattle.questions.proofs.tasks_waiting.Symbol as by-value
-use Rattle.questions.proofs.tasks_waiting.Met.{met}
+use Rattle.by_value.proofs.tasks_waiting as by-value-clauses
+use Rattle.by_value.proofs.tasks_waiting.Symbol as by-value
+use Rattle.by_value.proofs.tasks_waiting.Met.{met}
 use Rattle.site.proofs.Called.{Called, CallOf}
 use Rattle.site.proofs.Params.{Values}
 use Rattle.site.proofs.Types.{tasks, node-no}
@@ -45,4 +45,4 @@ tasks-waiting-spec 𝓤 H 𝓜 𝓖 𝓡 =
     question (node-no ∷ []) tasks answered 𝓤 H 𝓜 𝓖 𝓡
     (λ κs a. tasks-waiting.clauses 𝓤 H (𝓖 .A) (𝓜 .mem) (𝓡 .run) κs a .ensures tt)
     (λ κs a ws. factI 𝓤 _ (emp 𝓤) (refl, tasks-said (a .1 .0) _))
-    code.env name by-value.name by-value.routine (code.unfolded 𝓤 H 𝓜 𝓡) code.calls-questions·tasks-waiting (answers 𝓤 H 𝓜 𝓖 𝓡)
+    code.env name by-value.name by-value.routine (code.unfolded 𝓤 H 𝓜 𝓡) code.calls-by-value·tasks-waiting (answers 𝓤 H 𝓜 𝓖 𝓡)

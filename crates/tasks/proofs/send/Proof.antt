@@ -1,11 +1,118 @@
--- `tasks::send` meets its contract: the ring after the call, put together, is what the call on its parts left. Assumes nothing.
-use mathlib.Core.Path.{_∙_}
+-- `tasks::send` meets its contract: each return carries what the tests showed to the law of its case. Assumes nothing.
+use mathlib.Core.Path.{_≡_, refl, sym, _∙_}
+use mathlib.Core.List.{[], _∷_}
+use types.Run.{OneOf, miss}
+use denote.Enum.Declared.{tagOf}
 use borrow.Author.Needs.{needs}
+use Rattle.batch.specs.declared.BatchRecord.{BatchRecord}
+use Rattle.batch.specs.declared.Verdict.{Verdict}
+use Rattle.batch.specs.declared.Verdict.the-variants.{Good, Refused}
+use Rattle.batch.specs.Good.{verdictOf}
+use Rattle.batch.proofs.Verdict.{the-type}
+use Rattle.network.specs.declared.Ring.{Ring}
+use Rattle.network.specs.Runs
+use Rattle.network.specs.Layout.{ringIn}
+use Rattle.updates.specs.Known.{AtChannel}
+use Rattle.updates.proofs.Openings.{turns-away, channel-open, refuses, accepts}
+use Rattle.updates.proofs.Messages.{response-made}
+use Rattle.updates.proofs.Reading.{channel-within}
+use Rattle.tasks.proofs.Offers.{send-bad, send-again, send-offered, send-room, send-responds}
 use Rattle.tasks.proofs.send.Statement.{statement}
 use Rattle.tasks.proofs.send.Tie as tie
 
+-- the start, the ring that was given, and that its opening was not refused
+abbrev start : tie.After-open → tie.Start
+start c = c .before .before .before .before
+
+abbrev given : tie.After-open → Ring
+given c = let a = start c .args in ringIn (a .t1) (a .slots .now) (a .lines .now) (a .offers .now) (a .carried .now)
+
+at-channel : (c : tie.After-enum-told) → AtChannel (given (c .before .before)) (start (c .before .before) .args .channel .0)
+at-channel c = channel-open _ (c .before .before .open .ensures) (c .before .match .keys2)
+
+-- the verdict that is no refusal
+no-refusal : (v : Verdict) → OneOf (0 ∷ []) (tagOf the-type v) → v ≡ Good
+no-refusal Good k = refl
+no-refusal (Refused r) k = absurd (miss (0 ∷ []) 1 tt k)
+
+returns-2 : tie.Need-returns-2
+returns-2 c =
+    let told = c .before .before in
+    let judged = told .before .before in
+    refuses _ (send-bad (at-channel (judged .before)) _ _ (sym (judged .judge .ensures .0) ∙ told .verdict .given .1)) (c .refuse2 .ensures)
+
 returns : tie.Need-returns
-returns c = c .whole .ensures ∙ c .before .send .ensures
+returns c =
+    let told = c .before .before in
+    turns-away (Runs.send _ _) _ (told .before .before .open .ensures) (told .opening .given .1) (c .refuse .ensures)
+
+-- the record is good
+module _ (c : tie.After-struct-known) where
+  abbrev judged : tie.After-judge
+  judged = c .before .before .before
+
+  abbrev there : tie.After-enum-told
+  there = judged .before
+
+  abbrev sent : BatchRecord
+  sent = start (there .before .before) .args .«record»
+
+  good : verdictOf sent ≡ Good
+  good = sym (judged .judge .ensures .0) ∙ no-refusal _ (c .before .before .match2 .keys2)
+
+  known : AtChannel (given (there .before .before)) (start (there .before .before) .args .channel .0)
+  known = at-channel there
+
+element-copy-out-if1 : tie.Need-element-copy-out-if1
+element-copy-out-if1 c = channel-within (known c)
+
+returns-3 : tie.Need-returns-3
+returns-3 c =
+    let fine = c .before .before .before in
+    refuses _ (send-again (known fine) _ (good fine) (c .before .if1 .taken)) (c .refuse3 .ensures)
+
+-- no record is offered yet
+abbrev fine : tie.Else1 → tie.After-struct-known
+fine c = c .before .before
+
+element-copy-out-if2 : tie.Need-element-copy-out-if2
+element-copy-out-if2 c = channel-within (known (fine c))
+
+-- the channel waits for the record, which goes out as the response
+respond-requires : tie.Need-respond-requires
+respond-requires c κs =
+    let waits = c .before .before in
+    let free = waits .before .before in
+    send-room (known (fine free)) _ (good (fine free)) (free .if1 .left) (waits .if2 .taken)
+
+returns-4 : tie.Need-returns-4
+returns-4 c =
+    let answers = c .before in
+    let waits = answers .before .before .before in
+    let free = waits .before .before in
+    response-made _ _ (send-responds (known (fine free)) _ (good (fine free)) (free .if1 .left) (waits .if2 .taken))
+    (answers .respond .ensures)
+    (c .accept .ensures)
+
+-- it does not, and the record is offered
+set-record-requires : tie.Need-set-record-requires
+set-record-requires c κs = channel-within (known (fine (c .before .before .before)))
+
+element-write-head : tie.Need-element-write-head
+element-write-head c = channel-within (known (fine (c .before .before .before .before)))
+
+returns-5 : tie.Need-returns-5
+returns-5 c =
+    let put = c .before in
+    let unready = put .before .before in
+    let free = unready .before .before in
+    rw (put .set-record .ensures)
+    (accepts _ (send-offered (known (fine free)) _ (good (fine free)) (free .if1 .left) (unready .if2 .left)) (c .accept2 .ensures))
 
 pub send-spec : {M : Type 1} → statement M
-send-spec = tie.close (tie.spec (λ c κs. search needs) (λ c κs. search needs) returns)
+send-spec =
+    tie.close
+    (tie.spec (λ c κs. search needs) (λ c. search needs) (λ c κs. search needs) returns (λ c. search needs) (λ c κs. search needs)
+    (λ c. search needs) (λ c κs. search needs) returns-2 (λ c. search needs) (λ c. search needs) element-copy-out-if1 (λ c κs. search needs)
+    returns-3 element-copy-out-if2 respond-requires (λ c κs. search needs) returns-4 set-record-requires element-write-head
+    (λ c κs. search needs) returns-5)
