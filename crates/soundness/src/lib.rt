@@ -4,13 +4,11 @@
 //
 // Every call pays for this test. So its loops go over all their cells and leave only at the end, counting the wrong ones: the compiler
 // then tests 16 cells at once. Only the pass over the messages stops where it meets a wrong one.
-mod blank;
 mod channels;
-mod messages;
 mod nodes;
 mod records;
-mod rows;
 
+use messages;
 use network::ByNode;
 use network::Cells;
 use network::Head;
@@ -21,7 +19,7 @@ ghost use mathlib.Core.Path.{_≡_};
 ghost use lib.ListN.{getD};
 ghost use Rattle.network.specs.Counting.{sum};
 ghost use Rattle.network.specs.Layout.{nodeRoom, ringIn, soundRing};
-ghost use Rattle.soundness.specs.Decides.{Decides};
+ghost use Rattle.messages.specs.Decides.{Decides};
 ghost use Rattle.soundness.specs.Fits.{CountsFit, StartFits};
 
 // The counts are in range, and the byte of no use is zero.
