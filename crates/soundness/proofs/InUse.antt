@@ -27,8 +27,8 @@ decides-nothing a b c d =
     (λ e. (or-zero (bitOr a b) c .1 (or-zero a b .1 (e .0, e .1), e .2), e .3))
     (decides-none (bitOr (bitOr a b) c) d)
 
--- the loop that counts the wrong places (messages' `Counting`), where what is asked of a place goes by whether it is in use, one of the first
--- `count`; its number is read off the table of places
+-- The wrong places are counted (`Counting` in messages), and what is asked of a place goes by whether it is in use, one of the first
+-- `count`; its number is read off the table of places.
 
 pub record CountingUsed (P : Bool → ℕ → Type 0) (count n : ℕ) (places : List ℕ) (wrong i : ℕ) : Type 0 where
   pub table : CountsUp places

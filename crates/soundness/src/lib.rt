@@ -1,6 +1,6 @@
 // The test for a sound ring (document 01, "A sound ring"), which every call makes first. Each part of the ring is judged by one function,
 // which answers true exactly when the statement in its contract holds (`Decides`); together they are the statement of specs/Fits, and
-// that holds of exactly the sound rings.
+// that holds of exactly the sound rings. The messages are judged in the crate `messages`.
 //
 // Every call pays for this test. So its loops go over all their cells and leave only at the end, counting the wrong ones: the compiler
 // then tests 16 cells at once. Only the pass over the messages stops where it meets a wrong one.
