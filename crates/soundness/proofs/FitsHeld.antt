@@ -12,9 +12,10 @@ use Rattle.network.specs.Layout.{nodeRoom, channelRoom, rowLength, cellRoom, re
 use Rattle.network.proofs.Ground.Splits.{by-less}
 use Rattle.network.proofs.Ground.Counting.{one-most}
 use Rattle.network.proofs.Memory.Held.{HeldNode, HeldChannel, Held, no-node, no-channel}
-use Rattle.soundness.specs.Fits.{UsedNode, UsedChannel, Nothing, Blank, Fits}
-use Rattle.soundness.proofs.Zeros.{beyond-row}
-use Rattle.soundness.proofs.PlacesMet.{Places, all-met}
+use Rattle.messages.specs.Messages.{Blank}
+use Rattle.soundness.specs.Fits.{UsedNode, UsedChannel, Nothing, Fits}
+use Rattle.messages.proofs.Zeros.{beyond-row}
+use Rattle.messages.proofs.PlacesMet.{Places, all-met}
 use Rattle.soundness.proofs.Codes.{flag-kept, code-kept, carried-is, offered-kept, offer-is}
 use Rattle.soundness.proofs.Queues.{queue-kept, row-kept}
 use Rattle.soundness.proofs.View.{nodes, channels, begun, node-count-of, channel-count-of, node-of, channel-of}

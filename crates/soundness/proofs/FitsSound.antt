@@ -16,9 +16,9 @@ use Rattle.network.proofs.Ground.Counting.{sum-same}
 use Rattle.network.proofs.Lists.Clauses.{NodeFacts, ChannelFacts, Facts, facts-sound, BufferFits, LineFits, entry-in, target-in}
 use Rattle.network.proofs.Memory.Held.{is-sound-ring}
 use Rattle.soundness.specs.Fits.{Fits}
-use Rattle.soundness.specs.RowPass.{inBuffer, inLine}
-use Rattle.soundness.proofs.UsedCells.{queue-below}
-use Rattle.soundness.proofs.OnTheWay.{decides-way, StandsBy, Way, ends-below, stands-moving, stands-way}
+use Rattle.messages.specs.RowPass.{inBuffer, inLine}
+use Rattle.messages.proofs.UsedCells.{queue-below}
+use Rattle.messages.proofs.OnTheWay.{decides-way, StandsBy, Way, ends-below, stands-moving, stands-way}
 use Rattle.soundness.proofs.Codes.{good-if-offered, good-if-carried, code-rests, not-raised, none-offered}
 use Rattle.soundness.proofs.Queues.{queue-occupied}
 use Rattle.soundness.proofs.FitsHeld.{used-node, used-channel, table, node-held, channel-held, held}

@@ -13,8 +13,8 @@ use Rattle.network.specs.Network.{channelNo, timesIn}
 use Rattle.network.specs.Layout.{nodeRoom, rowLength, cellRoom, row, padded, cellsOf, queueOf}
 use Rattle.network.proofs.Ground.Splits.{by-less, both-ways}
 use Rattle.network.proofs.Memory.Rows.{row-length, getD-padded, padded-front, length-cells, length-padded}
-use Rattle.soundness.proofs.UsedCells.{Used, below-used, RowUsed, zero-rest, row-laid}
-use Rattle.soundness.proofs.RowPass.{in-use-most}
+use Rattle.messages.proofs.UsedCells.{Used, below-used, RowUsed, zero-rest, row-laid}
+use Rattle.messages.proofs.RowPass.{in-use-most}
 
 -- a queue that is read off so many cells
 

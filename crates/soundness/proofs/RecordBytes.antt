@@ -15,9 +15,10 @@ use Rattle.wire.proofs.Record.{record-writes-back}
 use Rattle.network.specs.Layout.{padded, row}
 use Rattle.network.proofs.Ground.Splits.{and-left, and-right, and-both}
 use Rattle.network.proofs.Memory.Rows.{padded-whole}
-use Rattle.soundness.specs.Decides.{Decides}
-use Rattle.soundness.specs.Fits.{Blank, BytesFit}
-use Rattle.soundness.proofs.Zeros.{blank-padded, padded-blank}
+use Rattle.messages.specs.Decides.{Decides}
+use Rattle.messages.specs.Messages.{Blank}
+use Rattle.soundness.specs.Fits.{BytesFit}
+use Rattle.messages.proofs.Zeros.{blank-padded, padded-blank}
 
 -- a test of cells that are zero
 

@@ -13,12 +13,13 @@ use Rattle.network.proofs.Ground.Splits.{by-less}
 use Rattle.network.proofs.Ground.Counting.{sum-same, one-most, sum-some}
 use Rattle.network.proofs.Lists.Clauses.{entry-in, target-in}
 use Rattle.network.proofs.Memory.Held.{no-node, no-channel, SoundRing}
-use Rattle.soundness.specs.Fits.{Fits, Stands, UnderWay, MessagesFit}
-use Rattle.soundness.specs.RowPass.{inBuffer, inLine}
-use Rattle.soundness.proofs.Zeros.{rows-beyond}
-use Rattle.soundness.proofs.UsedCells.{RowUsed}
-use Rattle.soundness.proofs.PlacesMet.{Places, timesInRows, all-met, all-pass}
-use Rattle.soundness.proofs.OnTheWay.{decides-way, ends-below, way-stands}
+use Rattle.messages.specs.Messages.{Stands, UnderWay, MessagesFit}
+use Rattle.soundness.specs.Fits.{Fits}
+use Rattle.messages.specs.RowPass.{inBuffer, inLine}
+use Rattle.messages.proofs.Zeros.{rows-beyond}
+use Rattle.messages.proofs.UsedCells.{RowUsed}
+use Rattle.messages.proofs.PlacesMet.{Places, timesInRows, all-met, all-pass}
+use Rattle.messages.proofs.OnTheWay.{decides-way, ends-below, way-stands}
 use Rattle.soundness.proofs.Queues.{queue-stands}
 use Rattle.soundness.proofs.SoundHead.{counts-fit, start-fits, node-fits, channel-fits, records-fit}
 use Rattle.soundness.proofs.View.{nodes, channels, node-count-of, channel-count-of, node-of}

@@ -17,7 +17,7 @@ use Rattle.network.proofs.Ground.Tests.{reads}
 use Rattle.network.proofs.Ground.Counting.{one-most}
 use Rattle.network.proofs.Memory.Held.{HeldChannel, no-node, no-channel, SoundRing}
 use Rattle.soundness.specs.Fits.{NodeFits, ChannelFits, CountsFit, RecordsFit, StartFits}
-use Rattle.soundness.proofs.Zeros.{rows-beyond}
+use Rattle.messages.proofs.Zeros.{rows-beyond}
 use Rattle.soundness.proofs.Codes.{code-most, code-ready, flag-most, flag-below, offer-stands, carried-stands}
 use Rattle.soundness.proofs.Queues.{length-occupied}
 use Rattle.soundness.proofs.View.{nodes, channels, begun, node-count-of, channel-count-of, slots-of}

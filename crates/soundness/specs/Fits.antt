@@ -1,19 +1,19 @@
--- What the test for a sound ring decides, over the arrays of a ring, part by part as the code has it. `Fits` is the whole; it holds of
--- exactly the sound rings of the definitions (proofs/FitsSound one way, proofs/SoundFits the other). Assumes nothing.
-use Prim.Native.Nat.{ℕ, _+_, _*_, _<_, _≤_}
+-- What the test for a sound ring decides, over the arrays of a ring, part by part as the code has it; what it says of blank cells and of
+-- the messages stands in the crate `messages`. `Fits` is the whole; it holds of exactly the sound rings of the definitions
+-- (proofs/FitsSound one way, proofs/SoundFits the other). Assumes nothing.
+use Prim.Native.Nat.{ℕ, _*_, _<_, _≤_}
 use mathlib.Core.Path.{_≡_}
 use mathlib.Core.Logic.{_≢_}
-use mathlib.Core.Bool.{Bool, true, false, cond, _&&_, _||_}
+use mathlib.Core.Bool.{Bool, true, false, cond}
 use mathlib.Core.List.{List, []}
-use mathlib.Core.Option.{some}
-use lib.Dec.{eqb, leb, ltb}
+use lib.Dec.{eqb, ltb}
 use lib.ListN.{length, getD, drop}
 use Rattle.batch.specs.Good.{goodRecord}
 use Rattle.wire.specs.Record.{recordLength, recordBytes, recordIn}
 use Rattle.network.specs.declared.Ring.{Ring}
 use Rattle.network.specs.Counting.{one, sum}
-use Rattle.network.specs.Layout.{ringLimits, nodeRoom, channelRoom, rowLength, cellRoom, recordRoom, row, padded}
-use Rattle.soundness.specs.RowPass.{inBuffer, inLine, markAll}
+use Rattle.network.specs.Layout.{ringLimits, nodeRoom, channelRoom, recordRoom, row, padded}
+use Rattle.messages.specs.Messages.{Blank, MessagesFit}
 
 -- the counts are in range, and the byte of no use is zero
 pub record CountsFit (started n c spare : ℕ) : Type 0 where
@@ -29,9 +29,6 @@ Either false Used Blank = Blank
 
 abbrev pub Nothing : ℕ → ℕ → ℕ → ℕ → Type 0
 Nothing a b c d = (a ≡ 0) × (b ≡ 0) × (c ≡ 0) × (d ≡ 0)
-
-abbrev pub Blank : List ℕ → Type 0
-Blank cells = (i : ℕ) → getD cells i 0 ≡ 0
 
 -- A node. A turn mark, 0 or 1, only on a started ring and with a line that isn't empty.
 pub record UsedNode (started : Bool) (slots used waiting mark : ℕ) : Type 0 where
@@ -73,33 +70,6 @@ pub record RecordsFit (c : ℕ) (phases offered offers carried : List ℕ) : Typ
   pub carried-fits : (k : ℕ) → k < c → BytesFit (eqb (getD phases k 0) 3) (row recordLength carried k)
   pub offers-beyond : Blank (drop (recordLength * c) offers)
   pub carried-beyond : Blank (drop (recordLength * c) carried)
-
--- node p is on the way from the node of entry up to the one before the target, round the ring
-unfoldable pub onTheWay : ℕ → ℕ → ℕ → Bool
-onTheWay p entry target =
-    cond (ltb entry target) (leb entry p && ltb p target) (leb entry p || ltb p target)
-
--- A message on its way stands in a buffer there or in the line at its node of entry.
-pub record UnderWay (entry target place : ℕ) : Type 0 where
-  pub somewhere : 1 ≤ place
-  pub in-buffer : (p : ℕ) → p < nodeRoom → place ≡ inBuffer + p → onTheWay p entry target ≡ true
-  pub in-line : (p : ℕ) → place ≡ inLine + p → p ≡ entry
-
--- the place of a channel's message, by its phase
-pub record Stands (phase sender receiver place : ℕ) : Type 0 where
-  pub resting : phase ≡ 0 → place ≡ 0
-  pub asking : phase ≡ 1 → UnderWay receiver sender place
-  pub ready : phase ≡ 2 → place ≡ 0
-  pub answering : 3 ≤ phase → UnderWay sender receiver place
-
-pub record MessagesFit (n c : ℕ) (used waiting phases senders receivers slots lines : List ℕ) : Type 0 where
-  pub slots-whole : length slots ≡ cellRoom
-  pub lines-whole : length lines ≡ cellRoom
-  pub slots-beyond : Blank (drop (rowLength * n) slots)
-  pub lines-beyond : Blank (drop (rowLength * n) lines)
-  pub places : List ℕ
-  pub marked : markAll n c used waiting slots lines ≡ some places
-  pub right : (k : ℕ) → k < c → Stands (getD phases k 0) (getD senders k 0) (getD receivers k 0) (getD places k 0)
 
 -- started: n and c at least 1, b greater than c; not started: no deliveries, and the rest is said of each channel and node
 pub record StartFits (started n c deliveries : ℕ) (capacity : List ℕ) : Type 0 where

@@ -7,7 +7,7 @@ ghost use Prim.Native.Nat.{ℕ, _<_};
 ghost use lib.Dec.{ltb};
 ghost use lib.ListN.{getD};
 ghost use Rattle.network.specs.Layout.{channelRoom};
-ghost use Rattle.soundness.specs.Decides.{Decides};
+ghost use Rattle.messages.specs.Decides.{Decides};
 ghost use Rattle.soundness.specs.Fits.{PhaseFits, ChannelFits};
 
 // Phase and offer are in range and go together: a ready channel has no offer, and before the start every channel rests without one.

@@ -1,16 +1,14 @@
 // The test for a sound ring (document 01, "A sound ring"), which every call makes first. Each part of the ring is judged by one function,
 // which answers true exactly when the statement in its contract holds (`Decides`); together they are the statement of specs/Fits, and
-// that holds of exactly the sound rings.
+// that holds of exactly the sound rings. The messages are judged in the crate `messages`.
 //
 // Every call pays for this test. So its loops go over all their cells and leave only at the end, counting the wrong ones: the compiler
 // then tests 16 cells at once. Only the pass over the messages stops where it meets a wrong one.
-mod blank;
 mod channels;
-mod messages;
 mod nodes;
 mod records;
-mod rows;
 
+use messages;
 use network::ByNode;
 use network::Cells;
 use network::Head;
@@ -21,7 +19,7 @@ ghost use mathlib.Core.Path.{_≡_};
 ghost use lib.ListN.{getD};
 ghost use Rattle.network.specs.Counting.{sum};
 ghost use Rattle.network.specs.Layout.{nodeRoom, ringIn, soundRing};
-ghost use Rattle.soundness.specs.Decides.{Decides};
+ghost use Rattle.messages.specs.Decides.{Decides};
 ghost use Rattle.soundness.specs.Fits.{CountsFit, StartFits};
 
 // The counts are in range, and the byte of no use is zero.

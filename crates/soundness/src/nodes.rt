@@ -7,7 +7,7 @@ ghost use Prim.Native.Nat.{ℕ, _<_};
 ghost use lib.Dec.{ltb};
 ghost use lib.ListN.{getD};
 ghost use Rattle.network.specs.Layout.{nodeRoom};
-ghost use Rattle.soundness.specs.Decides.{Decides};
+ghost use Rattle.messages.specs.Decides.{Decides};
 ghost use Rattle.soundness.specs.Fits.{UsedNode, NodeFits};
 
 // A node in use, but for its rows of cells. A turn mark stands only on a started ring and with a line that isn't empty.

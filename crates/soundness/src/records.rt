@@ -1,6 +1,6 @@
 // The records, offered or carried: those that are there are good, and all other bytes are zero.
-use crate::blank;
 use batch;
+use messages::blank;
 use network::ByChannel;
 use network::Records;
 use network::Ring;
@@ -13,7 +13,7 @@ ghost use lib.ListN.{length, getD};
 ghost use Rattle.batch.specs.Good.{every, isZero};
 ghost use Rattle.wire.specs.Record.{recordLength};
 ghost use Rattle.network.specs.Layout.{channelRoom, recordRoom, row};
-ghost use Rattle.soundness.specs.Decides.{Decides};
+ghost use Rattle.messages.specs.Decides.{Decides};
 ghost use Rattle.soundness.specs.Fits.{BytesFit, RecordsFit};
 
 // The bytes of a record, taken eight at a time.

@@ -1,6 +1,6 @@
 -- `soundness::counts_fit` meets its contract: each test settles a part of the statement. Assumes nothing.
 use native.Mathlib.Omega.{arith}
-use Rattle.soundness.proofs.Decides.{says-no, restated, decides-same}
+use Rattle.messages.proofs.Decides.{says-no, restated, decides-same}
 use Rattle.soundness.proofs.counts_fit.Statement.{statement}
 use Rattle.soundness.proofs.counts_fit.Tie as tie
 

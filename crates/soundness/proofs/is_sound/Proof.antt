@@ -7,8 +7,8 @@ use Rattle.network.specs.Layout.{soundRing, ringIn}
 use Rattle.network.proofs.Ground.Splits.{both-ways}
 use Rattle.network.proofs.Memory.Held.{sound-ring}
 use Rattle.soundness.specs.Fits.{CountsFit, Fits}
-use Rattle.soundness.specs.Decides.{Decides}
-use Rattle.soundness.proofs.Decides.{same-test, refused, granted, restated}
+use Rattle.messages.specs.Decides.{Decides}
+use Rattle.messages.proofs.Decides.{same-test, refused, granted, restated}
 use Rattle.soundness.proofs.View.{Whole}
 use Rattle.soundness.proofs.FitsSound.{fits-sound}
 use Rattle.soundness.proofs.SoundFits.{sound-fits}

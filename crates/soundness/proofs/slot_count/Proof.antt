@@ -1,4 +1,4 @@
--- `soundness::slot_count` meets its contract: the loop adds up the slots of the nodes (proofs/Loops). Assumes nothing.
+-- `soundness::slot_count` meets its contract: the loop adds up the slots of the nodes (messages/proofs/Loops). Assumes nothing.
 use Prim.Native.Nat.{_-_}
 use mathlib.Core.Path.{refl}
 use native.Mathlib.Omega.{arith}
@@ -7,7 +7,7 @@ use mir.Syntax.{w8}
 use mir.Val.{Fits}
 use borrow.Author.Needs.{needs}
 use Rattle.network.specs.Layout.{nodeRoom}
-use Rattle.soundness.proofs.Loops.{Summing, summing-start, summing-turn, summing-end}
+use Rattle.messages.proofs.Loops.{Summing, summing-start, summing-turn, summing-end}
 use Rattle.soundness.proofs.slot_count.Statement.{statement}
 use Rattle.soundness.proofs.slot_count.Tie as tie
 

@@ -1,7 +1,7 @@
 -- `soundness::start_fits` meets its contract: each test settles a part of the statement. Assumes nothing.
 use native.Mathlib.Omega.{arith}
 use borrow.Author.Needs.{needs}
-use Rattle.soundness.proofs.Decides.{says-no, restated, decides-same, decides-less}
+use Rattle.messages.proofs.Decides.{says-no, restated, decides-same, decides-less}
 use Rattle.soundness.proofs.start_fits.Statement.{statement}
 use Rattle.soundness.proofs.start_fits.Tie as tie
 

@@ -1,6 +1,7 @@
 -- `soundness::channels::channel_fits` meets its contract. Assumes nothing.
 use borrow.Author.Needs.{needs}
-use Rattle.soundness.proofs.Decides.{restated, decides-less, decides-and, decides-nothing, decides-either}
+use Rattle.messages.proofs.Decides.{restated, decides-less, decides-and}
+use Rattle.soundness.proofs.InUse.{decides-either, decides-nothing}
 use Rattle.soundness.proofs.channels.channel_fits.Statement.{statement}
 use Rattle.soundness.proofs.channels.channel_fits.Tie as tie
 

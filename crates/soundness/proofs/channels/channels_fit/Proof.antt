@@ -1,4 +1,4 @@
--- `soundness::channels::channels_fit` meets its contract: the loop counts the channels that do not fit (proofs/Loops). Assumes nothing.
+-- `soundness::channels::channels_fit` meets its contract: the loop counts the channels that do not fit (proofs/InUse). Assumes nothing.
 use Prim.Native.Nat.{ℕ, _-_}
 use mathlib.Core.Path.{refl}
 use mathlib.Core.Bool.{Bool}
@@ -9,7 +9,7 @@ use borrow.Author.Needs.{needs}
 use Rattle.batch.proofs.Places.{counted}
 use Rattle.network.specs.Layout.{channelRoom}
 use Rattle.soundness.specs.Fits.{ChannelFits}
-use Rattle.soundness.proofs.Loops.{CountingUsed, used-start, used-turn, used-end}
+use Rattle.soundness.proofs.InUse.{CountingUsed, used-start, used-turn, used-end}
 use Rattle.soundness.proofs.channels.channels_fit.Statement.{statement}
 use Rattle.soundness.proofs.channels.channels_fit.Tie as tie
 

@@ -3,7 +3,7 @@
 use mathlib.Core.Logic.{⊎-elim, inl, inr}
 use native.Mathlib.Omega.{arith}
 use Rattle.network.proofs.Ground.Splits.{by-test, by-same, both-ways}
-use Rattle.soundness.proofs.Decides.{restated, decides-flag, decides-most, decides-same, decides-and, decides-or, decides-not}
+use Rattle.messages.proofs.Decides.{restated, decides-flag, decides-most, decides-same, decides-and, decides-or, decides-not}
 use Rattle.soundness.proofs.channels.phase_fits.Statement.{statement}
 use Rattle.soundness.proofs.channels.phase_fits.Tie as tie
 

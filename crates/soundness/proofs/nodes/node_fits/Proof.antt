@@ -1,6 +1,6 @@
 -- `soundness::nodes::node_fits` meets its contract. Assumes nothing.
 use borrow.Author.Needs.{needs}
-use Rattle.soundness.proofs.Decides.{decides-nothing}
+use Rattle.soundness.proofs.InUse.{decides-nothing}
 use Rattle.soundness.proofs.nodes.node_fits.Statement.{statement}
 use Rattle.soundness.proofs.nodes.node_fits.Tie as tie
 

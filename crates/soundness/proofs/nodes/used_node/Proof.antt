@@ -5,7 +5,7 @@ use borrow.Author.Needs.{needs}
 use borrow.Author.Tests.{not-true, not-false, ltb-true, lt-ltb}
 use Rattle.network.specs.Counting.{one}
 use Rattle.network.proofs.Ground.Counting.{one-most}
-use Rattle.soundness.proofs.Decides.{says-no}
+use Rattle.messages.proofs.Decides.{says-no}
 use Rattle.soundness.proofs.nodes.used_node.Statement.{statement}
 use Rattle.soundness.proofs.nodes.used_node.Tie as tie
 

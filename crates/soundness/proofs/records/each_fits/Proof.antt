@@ -1,4 +1,4 @@
--- `soundness::records::each_fits` meets its contract: the loop counts the records that do not fit (proofs/Loops). Assumes nothing.
+-- `soundness::records::each_fits` meets its contract: the loop counts the records that do not fit (messages/proofs/Loops). Assumes nothing.
 use Prim.Native.Nat.{ℕ, _-_}
 use mathlib.Core.List.{List}
 use native.Mathlib.Omega.{arith}
@@ -8,8 +8,8 @@ use Rattle.wire.specs.Record.{recordLength}
 use Rattle.network.specs.Layout.{row}
 use Rattle.network.proofs.Memory.Rows.{row-length}
 use Rattle.soundness.specs.Fits.{BytesFit}
-use Rattle.soundness.proofs.Loops.{Counting, counting-start, counting-turn, counting-end}
-use Rattle.soundness.proofs.Zeros.{part-is-row}
+use Rattle.messages.proofs.Loops.{Counting, counting-start, counting-turn, counting-end}
+use Rattle.messages.proofs.Zeros.{part-is-row}
 use Rattle.soundness.proofs.records.each_fits.Statement.{statement}
 use Rattle.soundness.proofs.records.each_fits.Tie as tie
 

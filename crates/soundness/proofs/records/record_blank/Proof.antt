@@ -11,7 +11,7 @@ use borrow.Author.Tests.{not-true, not-false}
 use Rattle.batch.specs.Good.{every, isZero}
 use Rattle.network.specs.Layout.{row}
 use Rattle.soundness.proofs.RecordBytes.{word-wrong, word-passed}
-use Rattle.soundness.proofs.Zeros.{part-is-row}
+use Rattle.messages.proofs.Zeros.{part-is-row}
 use Rattle.soundness.proofs.records.record_blank.Statement.{statement}
 use Rattle.soundness.proofs.records.record_blank.Tie as tie
 

@@ -1,6 +1,6 @@
 -- `soundness::records::records_fit` meets its contract: its tests are the parts of the statement. Assumes nothing.
 use borrow.Author.Needs.{needs}
-use Rattle.soundness.proofs.Decides.{says-no, restated, refused, granted}
+use Rattle.messages.proofs.Decides.{says-no, restated, refused, granted}
 use Rattle.soundness.proofs.records.records_fit.Statement.{statement}
 use Rattle.soundness.proofs.records.records_fit.Tie as tie
 
