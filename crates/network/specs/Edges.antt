@@ -91,7 +91,7 @@ EdgesHold =
     (i : ℕ) → i < length edges →
     ask freshRing view callRing (getD edges i (edge (slotting 0) 0) .question) ≡ getD edges i (edge (slotting 0) 0) .answer
 
--- the nodes and channels of the runs
+-- the nodes and channels that the runs name
 abbrev pub n0 : NodeNo
 n0 = nodeNo 0
 

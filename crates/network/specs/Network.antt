@@ -76,7 +76,7 @@ node σ p = getD (σ .nodes) (p .0) noNode
 abbrev pub channel : Network → ChannelNo → ChannelState
 channel σ k = getD (σ .channels) (k .0) noChannel
 
--- which there are
+-- whether there is such a node, or such a channel
 abbrev pub isNode : Network → NodeNo → Bool
 isNode σ p = ltb (p .0) (nodeCount σ)
 
