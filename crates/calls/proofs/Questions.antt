@@ -1,11 +1,12 @@
 -- A question leaves the ring, and no record stands beside its answer. So a step that keeps the head and has the question's answer, with the
 -- blank record, is what the question does. Assumes nothing.
-use Prim.Native.Nat.{ℕ}
 use mathlib.Core.Path.{_≡_, refl, sym, ap, _∙_}
 use mathlib.Core.Bool.{Bool, true, false}
 use lib.Dec.{ltb}
 use Rattle.refusal.specs.declared.Refusal.{Refusal}
 use Rattle.batch.specs.Blank.{noRecord}
+use Rattle.numbers.specs.declared.NodeNo.{NodeNo}
+use Rattle.numbers.specs.declared.ChannelNo.{ChannelNo}
 use Rattle.network.specs.declared.Answer.{Answer}
 use Rattle.network.specs.declared.HeadStep.{HeadStep}
 use Rattle.network.specs.declared.Ring.{Ring}
@@ -31,13 +32,13 @@ bare-held : (o : Outcome Network) → Bare o → Bare (heldOutcome o)
 bare-held (refused r) h = h
 bare-held (accepted e σ) h = h
 
-hops-bare : (k : ℕ) (σ : Network) → Bare (Calls.hopsLeft k σ)
+hops-bare : (k : ChannelNo) (σ : Network) → Bare (Calls.hopsLeft k σ)
 unfolding Calls.hopsLeft
-hops-bare k σ = bare-unless (σ .started) _ _ (bare-unless (ltb k (channelCount σ)) _ _ refl)
+hops-bare k σ = bare-unless (σ .started) _ _ (bare-unless (ltb (k .0) (channelCount σ)) _ _ refl)
 
-waiting-bare : (p : ℕ) (σ : Network) → Bare (Calls.waitingSet p σ)
+waiting-bare : (p : NodeNo) (σ : Network) → Bare (Calls.waitingSet p σ)
 unfolding Calls.waitingSet
-waiting-bare p σ = bare-unless (ltb p (nodeCount σ)) _ _ refl
+waiting-bare p σ = bare-unless (ltb (p .0) (nodeCount σ)) _ _ refl
 
 module _ (ring : Ring) where
   -- a call that leaves the ring and delivers no record
@@ -69,9 +70,9 @@ module _ (ring : Ring) where
       (sym (q .bare))
       ∙ ap (λ r. record { ring = r; reply = replyOf (callRing a ring) }) (sym (q .leaves))
 
-  pub hops-left-answers : (k : ℕ) → Answers (hopsLeft k)
+  pub hops-left-answers : (k : ChannelNo) → Answers (hopsLeft k)
   hops-left-answers k = answers (hopsLeft k) (question (hopsLeft k) (ring-safe .hops-left-leaves k ring) (hops-bare k (view ring)))
 
-  pub waiting-set-answers : (p : ℕ) → Answers (waitingSet p)
+  pub waiting-set-answers : (p : NodeNo) → Answers (waitingSet p)
   waiting-set-answers p =
       answers (waitingSet p) (question (waitingSet p) (ring-safe .waiting-set-leaves p ring) (waiting-bare p (view ring)))

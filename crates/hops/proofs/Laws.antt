@@ -10,7 +10,8 @@ use native.Mathlib.Omega.{arith}
 use lib.Dec.{eqb, ltb, leb}
 use borrow.Author.Tests.{ltb-true, ltb-false, leb-true, eqb-true, eqb-false, lt-ltb, le-leb, eq-eqb, ne-eqb}
 use Rattle.hops.specs.Hops.{reaches, least, hops, LeastHops, next, sheetNodes, sheetHops}
-use Rattle.hops.proofs.CaseSplits.{by-test, by-case}
+use Rattle.numbers.proofs.Splits.{by-test}
+use Rattle.hops.proofs.CaseSplits.{by-case}
 
 -- The search finds the least number that passes, where one does.
 

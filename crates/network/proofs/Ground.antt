@@ -1,5 +1,6 @@
--- Ground: case splits, sums and counts, and tests read as statements.
+-- Ground: case splits, node and channel numbers as plain ones, sums and counts, and tests read as statements.
 pub mod Splits
+pub mod Numbers
 pub mod Counting
 pub mod Tests
 pub mod Joined

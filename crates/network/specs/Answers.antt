@@ -11,6 +11,7 @@ use Rattle.refusal.specs.declared.Refusal.the-variants.{UnsoundRing}
 use Rattle.refusal.specs.Number.{numberOf}
 use Rattle.batch.specs.declared.BatchRecord.{BatchRecord}
 use Rattle.batch.specs.Blank.{noRecord}
+use Rattle.numbers.specs.declared.ChannelNo.{ChannelNo}
 use Rattle.network.specs.declared.Ring.{Ring}
 use Rattle.network.specs.declared.RingCall.{RingCall}
 use Rattle.network.specs.declared.RingCall.the-variants.{AddNode, AddChannel, Start, Receive, Send, Enter, Move, HopsLeft, WaitingSet}
@@ -24,14 +25,14 @@ use Rattle.network.specs.Runs.{Call, addNode, addChannel, start, receive
 -- the ring call that a case of the enum stands for, with the record beside it
 abbrev pub callOf : RingCall → BatchRecord → Call
 callOf (AddNode slots) x = addNode slots
-callOf (AddChannel sender receiver) x = addChannel (sender .0) (receiver .0)
+callOf (AddChannel sender receiver) x = addChannel sender receiver
 callOf Start x = start
-callOf (Receive channel) x = receive (channel .0)
-callOf (Send channel) x = send (channel .0) x
-callOf (Enter node) x = enter (node .0)
-callOf (Move node) x = move (node .0)
-callOf (HopsLeft channel) x = hopsLeft (channel .0)
-callOf (WaitingSet node) x = waitingSet (node .0)
+callOf (Receive channel) x = receive channel
+callOf (Send channel) x = send channel x
+callOf (Enter node) x = enter node
+callOf (Move node) x = move node
+callOf (HopsLeft channel) x = hopsLeft channel
+callOf (WaitingSet node) x = waitingSet node
 
 -- document 01's number for an answer: that of the refusal, or 0
 abbrev pub numberIn : Answer → ℕ
@@ -44,7 +45,7 @@ numberIn (Refused r) = numberOf r
 -- the values of an accepted answer; a refusal answers its number alone
 abbrev pub valuesIn : Answer → BatchRecord → Event
 valuesIn Done x = done
-valuesIn (Delivered k) x = delivered (k .0) x
+valuesIn (Delivered k) x = delivered k x
 valuesIn (Hops h) x = hopsAre h
 valuesIn (Waiting w) x = waitingAre w
 valuesIn (Refused r) x = done
@@ -64,7 +65,7 @@ deliveredIn r = deliveryIn (valuesIn (r .answer) (r .delivered))
 -- the reply to an outcome: the case of the enum whose number and values are those of the outcome
 abbrev pub eventReply : Event → Reply
 eventReply done = record { answer = Done; delivered = noRecord }
-eventReply (delivered k x) = record { answer = Delivered (record { 0 = k }); delivered = x }
+eventReply (delivered k x) = record { answer = Delivered k; delivered = x }
 eventReply (hopsAre h) = record { answer = Hops h; delivered = noRecord }
 eventReply (waitingAre w) = record { answer = Waiting w; delivered = noRecord }
 
@@ -129,7 +130,7 @@ saidIn o = record { number = outcomeNumber o; values = outcomeValues o }
 abbrev pub says : ℕ → Said
 says n = record { number = n; values = done }
 
-abbrev pub delivers : ℕ → BatchRecord → Said
+abbrev pub delivers : ChannelNo → BatchRecord → Said
 delivers k x = record { number = 0; values = delivered k x }
 
 -- what a run answers, call by call

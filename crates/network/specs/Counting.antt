@@ -35,6 +35,6 @@ abbrev pub count : ℕ → List ℕ → ℕ
 count k xs = weigh (λ x. one (eqb x k)) xs
 
 -- the list has an element
-abbrev pub occupied : List ℕ → Bool
+abbrev pub occupied : {A : Type 0} → List A → Bool
 occupied [] = false
 occupied (x ∷ xs) = true

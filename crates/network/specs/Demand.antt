@@ -1,13 +1,15 @@
 -- What is promised of the vessel ring, stated once for whatever answers ring calls: the ring apart from its layout, the ring in
 -- memory, and code (Promise). `Safe` is about each call; `Demand3` is one claim about whole lists of calls, accepted or refused, in any
 -- order. Assumes nothing.
-use Prim.Native.Nat.{ℕ, _≤_, _<_}
+use Prim.Native.Nat.{_≤_, _<_}
 use mathlib.Core.Path.{_≡_}
 use mathlib.Core.Logic.{_⊎_}
 use mathlib.Core.Bool.{Bool, true, false, _||_}
 use mathlib.Core.List.{List, [], _∷_, _++_, map}
 use mathlib.Core.Option.{some}
 use Rattle.batch.specs.declared.BatchRecord.{BatchRecord}
+use Rattle.numbers.specs.declared.NodeNo.{NodeNo}
+use Rattle.numbers.specs.declared.ChannelNo.{ChannelNo}
 use Rattle.refusal.specs.declared.Refusal.the-variants.{UnsoundRing}
 use Rattle.network.specs.Network.{Network}
 use Rattle.network.specs.Sound.{Limits}
@@ -36,12 +38,12 @@ module _ {S : Type 0} (fresh : S) (sound : S → Bool) (seen : S → Network) (s
   pub record Safe : Type 0 where
     pub fresh-sound : sound fresh ≡ true
     pub sound-kept : KeepsSound
-    pub hops-left-leaves : (k : ℕ) → Leaves (hopsLeft k)
-    pub waiting-set-leaves : (p : ℕ) → Leaves (waitingSet p)
+    pub hops-left-leaves : (k : ChannelNo) → Leaves (hopsLeft k)
+    pub waiting-set-leaves : (p : NodeNo) → Leaves (waitingSet p)
 
   -- Record x is delivered on channel m, before any other on it: the calls up to some place hand out x alone on m, and no more than
   -- the bound of them are counted, the delivering move among them.
-  pub record InTime (s : S) (m : ℕ) (x : BatchRecord) (calls : List Call) : Type 0 where
+  pub record InTime (s : S) (m : ChannelNo) (x : BatchRecord) (calls : List Call) : Type 0 where
     pub upTo : List Call
     pub rest : List Call
     pub split : calls ≡ upTo ++ rest
@@ -49,22 +51,24 @@ module _ {S : Type 0} (fresh : S) (sound : S → Bool) (seen : S → Network) (s
     pub within : counted step upTo s ≤ bound (seen s)
 
   -- Or nothing was delivered on m yet, fewer than the bound were counted, and at some node an entry or a move would be accepted next.
-  pub record UnderWay (s : S) (m : ℕ) (calls : List Call) : Type 0 where
+  pub record UnderWay (s : S) (m : ChannelNo) (calls : List Call) : Type 0 where
     pub none-yet : deliveredOn step m calls s ≡ []
     pub fewer : counted step calls s < bound (seen s)
-    pub at : ℕ
+    pub at : NodeNo
     pub next-accepted : (isAccepted (step (enter at) (run step calls s)) || isAccepted (step (move at) (run step calls s))) ≡ true
 
   -- From a sound started ring where a request and the record x are matched on channel m, every list of calls is one or the other.
   abbrev pub Served : Type 0
   Served =
-      (s : S) (m : ℕ) (x : BatchRecord) (calls : List Call) →
+      (s : S) (m : ChannelNo) (x : BatchRecord) (calls : List Call) →
       sound s ≡ true → seen s .started ≡ true → matched (seen s) m ≡ some x →
       InTime s m x calls ⊎ UnderWay s m calls
 
   -- From a fresh ring, the records delivered on each channel are the first of those offered, in order, each once.
   abbrev pub InOrder : Type 0
-  InOrder = (k : ℕ) (calls : List Call) → (left : List BatchRecord) × (offeredOn step k calls fresh ≡ deliveredOn step k calls fresh ++ left)
+  InOrder =
+      (k : ChannelNo) (calls : List Call) →
+      (left : List BatchRecord) × (offeredOn step k calls fresh ≡ deliveredOn step k calls fresh ++ left)
 
   -- From an unsound ring, each call of a run answers 25, and the ring stays.
   pub record TurnedDown (s : S) (calls : List Call) : Type 0 where

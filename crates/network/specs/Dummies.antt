@@ -8,11 +8,12 @@ use mathlib.Core.Bool.{true, cond}
 use mathlib.Core.List.{List, [], _∷_, _++_}
 use lib.Dec.{eqb}
 use lib.ListN.{take, replicate}
+use Rattle.numbers.specs.declared.NodeNo.{NodeNo}
 use Rattle.refusal.specs.declared.Refusal.{Refusal}
 use Rattle.refusal.specs.declared.Refusal.the-variants.{NoFreeSlot, NextBufferFull, UnsoundRing}
 use Rattle.network.specs.declared.Ring.{Ring}
 use Rattle.network.specs.declared.Step.{Step}
-use Rattle.network.specs.Network.{Network, ringOf, fresh, nodeCount, nextNode}
+use Rattle.network.specs.Network.{Network, ringOf, fresh, channelNo, nodeCount, nextNode}
 use Rattle.network.specs.Sound.{sound}
 use Rattle.network.specs.Calls.{Event, done, delivered, hopsAre, waitingAre, Outcome, refused, accepted, unless, hasSlot}
 use Rattle.network.specs.Runs.{Call, addNode, addChannel, start, receive, send, enter, move, hopsLeft, waitingSet, call, run, counted, deliveredOn}
@@ -20,7 +21,7 @@ use Rattle.network.specs.Layout.{ringLimits, view, freshRing, soundRing,
 use Rattle.network.specs.Answers.{saidIn, says, replyOf, stepOf}
 use Rattle.network.specs.Demand.{RefusesUnsound, KeepsSound, Leaves, Served, InOrder, Each, Unsound}
 use Rattle.network.specs.Promise.{MeetsContracts, RefusalLeaves, NextRing}
-use Rattle.network.specs.Edges.{workedRecord}
+use Rattle.network.specs.Edges.{n0, n1, c0, workedRecord}
 
 -- a way to answer ring calls on the ring apart from its layout, and the true one
 abbrev pub Way : Type 0
@@ -44,7 +45,7 @@ insteadOf r (refused q) = refused q
 insteadOf r (accepted e τ) = refused r
 
 -- one for an entry, one for a move, one for any other call
-abbrev pub byTraffic : {A : Type 0} → Call → (ℕ → A) → (ℕ → A) → A → A
+abbrev pub byTraffic : {A : Type 0} → Call → (NodeNo → A) → (NodeNo → A) → A → A
 byTraffic (addNode slots) entry moving other = other
 byTraffic (addChannel s r) entry moving other = other
 byTraffic start entry moving other = other
@@ -75,7 +76,7 @@ grudgesSlots a σ =
 -- 3. Invents its hops left or deliveries: one hop too many, or a delivery on the next channel.
 abbrev pub invention : Event → Event
 invention done = done
-invention (delivered k x) = delivered (suc k) x
+invention (delivered k x) = delivered (channelNo (suc (k .0))) x
 invention (hopsAre h) = hopsAre (suc h)
 invention (waitingAre w) = waitingAre w
 
@@ -97,22 +98,22 @@ alwaysSays e next a σ = accepted e (next a σ)
 -- bound of demand 3 is 84. The request waits in the line; it is in the buffer of node 0; the response is in the buffer of node 1, one move
 -- from its receiver; and the same in the second lap.
 abbrev pub lap : List Call
-lap = receive 0 ∷ send 0 workedRecord ∷ enter 0 ∷ move 0 ∷ move 1 ∷ enter 0 ∷ move 0 ∷ []
+lap = receive c0 ∷ send c0 workedRecord ∷ enter n0 ∷ move n0 ∷ move n1 ∷ enter n0 ∷ move n0 ∷ []
 
 unfoldable pub begun : Network
-begun = run truly (addNode 1 ∷ addNode 1 ∷ addChannel 0 0 ∷ start ∷ []) fresh
+begun = run truly (addNode 1 ∷ addNode 1 ∷ addChannel n0 n0 ∷ start ∷ []) fresh
 
 unfoldable pub inLine : Network
-inLine = run truly (receive 0 ∷ send 0 workedRecord ∷ []) begun
+inLine = run truly (receive c0 ∷ send c0 workedRecord ∷ []) begun
 
 unfoldable pub inBuffer : Network
-inBuffer = run truly (enter 0 ∷ []) inLine
+inBuffer = run truly (enter n0 ∷ []) inLine
 
 unfoldable pub firstLap : Network
 firstLap = run truly lap begun
 
 unfoldable pub secondLap : Network
-secondLap = run truly (move 1 ∷ lap) firstLap
+secondLap = run truly (move n1 ∷ lap) firstLap
 
 -- a ring that is not sound: started with no node
 unfoldable pub broken : Network
@@ -132,15 +133,15 @@ pub record Exposed (dummy : Way) (a : Call) (σ : Network) : Type 0 where
   pub breaks-contracts : MeetsContracts (asCode dummy) → ⊥
 
 pub record Demand2Rejects : Type 0 where
-  pub acts-later-laps : Exposed actsLaterLaps (move 1) secondLap
-  pub grudges-18 : Exposed grudgesSlots (enter 0) inLine
-  pub grudges-20 : Exposed grudgesSlots (move 0) inBuffer
-  pub free-at-18 : (saidIn (grudgesSlots (enter 0) inLine) ≡ says 18) × (hasSlot inLine 0 ≡ true)
-  pub free-at-20 : (saidIn (grudgesSlots (move 0) inBuffer) ≡ says 20) × (hasSlot inBuffer 1 ≡ true)
-  pub invents-hops : Exposed invents (hopsLeft 0) inLine
-  pub invents-delivery : Exposed invents (move 1) firstLap
-  pub moves-nothing : Exposed movesNothing (move 1) firstLap
-  pub turns-down : (r : Refusal) → Exposed (turnsDown r) (enter 0) inLine
+  pub acts-later-laps : Exposed actsLaterLaps (move n1) secondLap
+  pub grudges-18 : Exposed grudgesSlots (enter n0) inLine
+  pub grudges-20 : Exposed grudgesSlots (move n0) inBuffer
+  pub free-at-18 : (saidIn (grudgesSlots (enter n0) inLine) ≡ says 18) × (hasSlot inLine n0 ≡ true)
+  pub free-at-20 : (saidIn (grudgesSlots (move n0) inBuffer) ≡ says 20) × (hasSlot inBuffer n1 ≡ true)
+  pub invents-hops : Exposed invents (hopsLeft c0) inLine
+  pub invents-delivery : Exposed invents (move n1) firstLap
+  pub moves-nothing : Exposed movesNothing (move n1) firstLap
+  pub turns-down : (r : Refusal) → Exposed (turnsDown r) (enter n0) inLine
   pub always-says : (e : Event) (next : Call → Network → Network) → Exposed (alwaysSays e next) start begun
 
 -- The bound and the order in demand 3 alone reject it.
@@ -157,7 +158,7 @@ times zero calls = []
 times (suc n) calls = calls ++ times n calls
 
 abbrev pub elevenLaps : List Call
-elevenLaps = move 1 ∷ times 11 (lap ++ (move 1 ∷ []))
+elevenLaps = move n1 ∷ times 11 (lap ++ (move n1 ∷ []))
 
 abbrev pub pastTheBound : Call → List Call
 pastTheBound a = replicate 84 a
@@ -180,21 +181,21 @@ pub record EachCanFail : Type 0 where
   pub refuses-unsound : RefusesUnsound fresh (sound ringLimits) (λ σ. σ) truly → ⊥
   pub fresh-sound : sound ringLimits broken ≡ true → ⊥
   pub sound-kept : KeepsSound fresh (sound ringLimits) (λ σ. σ) breaksRing → ⊥
-  pub hops-left-leaves : Leaves fresh (sound ringLimits) (λ σ. σ) breaksRing (hopsLeft 0) → ⊥
-  pub waiting-set-leaves : Leaves fresh (sound ringLimits) (λ σ. σ) breaksRing (waitingSet 0) → ⊥
+  pub hops-left-leaves : Leaves fresh (sound ringLimits) (λ σ. σ) breaksRing (hopsLeft c0) → ⊥
+  pub waiting-set-leaves : Leaves fresh (sound ringLimits) (λ σ. σ) breaksRing (waitingSet n0) → ⊥
   pub each : Each fresh (sound ringLimits) (λ σ. σ) invents ringLimits → ⊥
   pub unsound : Unsound fresh (sound ringLimits) (λ σ. σ) truly → ⊥
   pub served : ServedBy movesNothing → ⊥
-  pub in-order : InOrderBy (alwaysSays (delivered 0 workedRecord) (λ a σ. σ)) → ⊥
+  pub in-order : InOrderBy (alwaysSays (delivered c0 workedRecord) (λ a σ. σ)) → ⊥
   pub refusal-leaves : RefusalLeaves forgets → ⊥
   pub next-ring : NextRing forgets → ⊥
 
 -- A bound of n + 4 alone would be wrong: it is 6 on this ring, and in this run the seventh counted call delivers.
 abbrev pub slowCalls : List Call
-slowCalls = enter 0 ∷ move 0 ∷ move 1 ∷ send 0 workedRecord ∷ enter 0 ∷ move 0 ∷ move 1 ∷ []
+slowCalls = enter n0 ∷ move n0 ∷ move n1 ∷ send c0 workedRecord ∷ enter n0 ∷ move n0 ∷ move n1 ∷ []
 
 pub record SevenCounted : Type 0 where
   pub six : nodeCount inLine + 4 ≡ 6
   pub seven : counted truly slowCalls inLine ≡ 7
-  pub none-before : deliveredOn truly 0 (take 6 slowCalls) inLine ≡ []
-  pub delivered-then : deliveredOn truly 0 slowCalls inLine ≡ workedRecord ∷ []
+  pub none-before : deliveredOn truly c0 (take 6 slowCalls) inLine ≡ []
+  pub delivered-then : deliveredOn truly c0 slowCalls inLine ≡ workedRecord ∷ []

@@ -7,8 +7,10 @@ use lib.IntN.{ℤ, pos, negℤ}
 use lib.ListN.{length, getD, replicate}
 use Rattle.batch.specs.declared.BatchRecord.{BatchRecord}
 use Rattle.batch.specs.Good.{verdictOf, verdictNumber}
+use Rattle.numbers.specs.declared.NodeNo.{NodeNo}
+use Rattle.numbers.specs.declared.ChannelNo.{ChannelNo}
 use Rattle.hops.specs.Hops.{hops}
-use Rattle.network.specs.Network.{Network}
+use Rattle.network.specs.Network.{Network, nodeNo, channelNo}
 use Rattle.network.specs.Calls.{Outcome}
 use Rattle.network.specs.Runs.{Call, addNode, addChannel, start, receive, send, enter, move, run, bound}
 use Rattle.network.specs.Layout.{view, freshRing, callRing}
@@ -16,8 +18,8 @@ use Rattle.network.specs.Answers.{outcomeNumber, says, delivers, answers
 
 -- the calls that plan nodes of so many slots each and channels from sender to receiver
 pub record Ends : Type 0 where
-  pub from : ℕ
-  pub to : ℕ
+  pub from : NodeNo
+  pub to : NodeNo
 
 abbrev pub plan : List ℕ → List Ends → List Call
 plan slots ends = map addNode slots ++ map (λ (e : Ends). addChannel (e .from) (e .to)) ends
@@ -57,7 +59,7 @@ abbrev pub edge : Question → ℕ → Edge
 edge q a = record { question = q; answer = a }
 
 abbrev pub ends : ℕ → ℕ → Ends
-ends s r = record { from = s; to = r }
+ends s r = record { from = nodeNo s; to = nodeNo r }
 
 unfoldable pub edges : List Edge
 edges =
@@ -89,25 +91,44 @@ EdgesHold =
     (i : ℕ) → i < length edges →
     ask freshRing view callRing (getD edges i (edge (slotting 0) 0) .question) ≡ getD edges i (edge (slotting 0) 0) .answer
 
+-- the nodes and channels of the runs
+abbrev pub n0 : NodeNo
+n0 = nodeNo 0
+
+abbrev pub n1 : NodeNo
+n1 = nodeNo 1
+
+abbrev pub n2 : NodeNo
+n2 = nodeNo 2
+
+abbrev pub c0 : ChannelNo
+c0 = channelNo 0
+
+abbrev pub c1 : ChannelNo
+c1 = channelNo 1
+
+abbrev pub c2 : ChannelNo
+c2 = channelNo 2
+
 -- the run of document 01's tape, and the record that it delivers
 abbrev pub workedRecord : BatchRecord
 workedRecord = sample (pos 612) 2 (0x41 ∷ 0x31 ∷ replicate 30 0)
 
 abbrev pub workedCalls : List Call
 workedCalls =
-    addNode 1 ∷ addNode 2 ∷ addChannel 1 0 ∷ start ∷ receive 0 ∷ receive 0 ∷ enter 0 ∷ move 0 ∷ send 0 workedRecord ∷ enter 1
-    ∷ move 1 ∷ move 1 ∷ []
+    addNode 1 ∷ addNode 2 ∷ addChannel n1 n0 ∷ start ∷ receive c0 ∷ receive c0 ∷ enter n0 ∷ move n0 ∷ send c0 workedRecord ∷ enter n1
+    ∷ move n1 ∷ move n1 ∷ []
 
 abbrev pub WorkedRunHolds : Type 0
 WorkedRunHolds =
     answers callRing workedCalls freshRing
-    ≡ says 0 ∷ says 0 ∷ says 0 ∷ says 0 ∷ says 0 ∷ says 10 ∷ says 0 ∷ says 0 ∷ says 0 ∷ says 0 ∷ delivers 0 workedRecord ∷ says 19 ∷ []
+    ≡ says 0 ∷ says 0 ∷ says 0 ∷ says 0 ∷ says 0 ∷ says 10 ∷ says 0 ∷ says 0 ∷ says 0 ∷ says 0 ∷ delivers c0 workedRecord ∷ says 19 ∷ []
 
 -- the turn case: the plan, then the calls of document 01 in their order
 abbrev pub turnCalls : List Call
 turnCalls =
-    addNode 1 ∷ addNode 2 ∷ addNode 1 ∷ addChannel 2 0 ∷ addChannel 2 1 ∷ addChannel 2 0 ∷ start
-    ∷ receive 0 ∷ receive 1 ∷ receive 2 ∷ enter 0 ∷ move 0 ∷ enter 0 ∷ move 0 ∷ enter 1 ∷ move 0 ∷ move 1 ∷ move 0 ∷ []
+    addNode 1 ∷ addNode 2 ∷ addNode 1 ∷ addChannel n2 n0 ∷ addChannel n2 n1 ∷ addChannel n2 n0 ∷ start
+    ∷ receive c0 ∷ receive c1 ∷ receive c2 ∷ enter n0 ∷ move n0 ∷ enter n0 ∷ move n0 ∷ enter n1 ∷ move n0 ∷ move n1 ∷ move n0 ∷ []
 
 abbrev pub TurnHolds : Type 0
 TurnHolds =

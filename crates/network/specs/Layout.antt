@@ -8,13 +8,14 @@ use lib.Dec.{eqb}
 use lib.ListN.{length, getD, take, drop, replicate}
 use Rattle.refusal.specs.declared.Refusal.the-variants.{UnsoundRing}
 use Rattle.batch.specs.declared.BatchRecord.{BatchRecord}
+use Rattle.numbers.specs.declared.ChannelNo.{ChannelNo}
 use Rattle.wire.specs.Record.{recordLength, recordBytes, recordIn}
 use Rattle.network.specs.declared.Ring.{Ring}
 use Rattle.network.specs.declared.Head.{Head}
 use Rattle.network.specs.declared.Step.{Step}
 use Rattle.network.specs.declared.HeadStep.{HeadStep}
 use Rattle.network.specs.Counting.{one, tabulate}
-use Rattle.network.specs.Network.{Network, NodeState, ChannelState, Phase, resting, asking, ready, answering, ringOf, node, channel}
+use Rattle.network.specs.Network.{Network, NodeState, ChannelState, Phase, resting, asking, ready, answering, ringOf, nodeNo, channelNo, node, channel}
 use Rattle.network.specs.Sound.{Limits}
 use Rattle.network.specs.Sound
 use Rattle.network.specs.Calls.{Outcome, refused, accepted, unless}
@@ -53,11 +54,11 @@ rows width zero f = []
 rows width (suc n) f = rows width n f ++ padded width (f n)
 
 -- Node p's rows hold its buffer and its line: a used cell holds channel number + 1, oldest first.
-abbrev pub cellsOf : List ℕ → List ℕ
-cellsOf xs = map suc xs
+abbrev pub cellsOf : List ChannelNo → List ℕ
+cellsOf ks = map (λ (k : ChannelNo). suc (k .0)) ks
 
-abbrev pub queueOf : ℕ → List ℕ → List ℕ
-queueOf used cells = map pred (take used cells)
+abbrev pub queueOf : ℕ → List ℕ → List ChannelNo
+queueOf used cells = map (λ cell. channelNo (pred cell)) (take used cells)
 
 -- the numbers that stand for a phase, with the record that is carried
 abbrev pub phaseCode : Phase → ℕ
@@ -95,8 +96,8 @@ viewNode ring p =
 abbrev pub viewChannel : Ring → ℕ → ChannelState
 viewChannel ring k =
     record {
-      sender = getD (ring .head .senders) k 0;
-      receiver = getD (ring .head .receivers) k 0;
+      sender = nodeNo (getD (ring .head .senders) k 0);
+      receiver = nodeNo (getD (ring .head .receivers) k 0);
       phase = phaseOf (getD (ring .head .phases) k 0) (recordAt (ring .carried) k);
       offer = offerOf (getD (ring .head .offered) k 0) (recordAt (ring .offers) k);
     }
@@ -123,10 +124,10 @@ carriedBytes (answering x) = recordBytes x
 
 -- a number for each node and for each channel; what there is not reads as nothing, so as 0
 abbrev pub byNode : Network → (NodeState → ℕ) → List ℕ
-byNode σ f = tabulate nodeRoom (λ p. f (node σ p))
+byNode σ f = tabulate nodeRoom (λ p. f (node σ (nodeNo p)))
 
 abbrev pub byChannel : Network → (ChannelState → ℕ) → List ℕ
-byChannel σ f = tabulate channelRoom (λ k. f (channel σ k))
+byChannel σ f = tabulate channelRoom (λ k. f (channel σ (channelNo k)))
 
 unfoldable pub holdHead : Network → Head
 holdHead σ =
@@ -140,8 +141,8 @@ holdHead σ =
       used = byNode σ (λ s. length (s .buffer));
       waiting = byNode σ (λ s. length (s .line));
       marks = byNode σ (λ s. one (s .mark));
-      senders = byChannel σ (λ s. s .sender);
-      receivers = byChannel σ (λ s. s .receiver);
+      senders = byChannel σ (λ s. s .sender .0);
+      receivers = byChannel σ (λ s. s .receiver .0);
       phases = byChannel σ (λ s. phaseCode (s .phase));
       offered = byChannel σ (λ s. offeredFlag (s .offer));
     }
@@ -150,10 +151,10 @@ unfoldable pub hold : Network → Ring
 hold σ =
     record {
       head = holdHead σ;
-      slots = rows rowLength nodeRoom (λ p. cellsOf (node σ p .buffer));
-      lines = rows rowLength nodeRoom (λ p. cellsOf (node σ p .line));
-      offers = rows recordLength channelRoom (λ k. offerBytes (channel σ k .offer));
-      carried = rows recordLength channelRoom (λ k. carriedBytes (channel σ k .phase));
+      slots = rows rowLength nodeRoom (λ p. cellsOf (node σ (nodeNo p) .buffer));
+      lines = rows rowLength nodeRoom (λ p. cellsOf (node σ (nodeNo p) .line));
+      offers = rows recordLength channelRoom (λ k. offerBytes (channel σ (channelNo k) .offer));
+      carried = rows recordLength channelRoom (λ k. carriedBytes (channel σ (channelNo k) .phase));
     }
 
 -- A fresh ring has no node, no channel and all 1,024 slot cells empty.

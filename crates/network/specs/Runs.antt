@@ -4,10 +4,11 @@ use Prim.Native.Nat.{ℕ, _+_, _*_}
 use mathlib.Core.Bool.{Bool, true, false, cond}
 use mathlib.Core.List.{List, [], _∷_, _++_}
 use mathlib.Core.Option.{Option, none, some}
-use lib.Dec.{eqb}
 use Rattle.batch.specs.declared.BatchRecord.{BatchRecord}
+use Rattle.numbers.specs.declared.NodeNo.{NodeNo}
+use Rattle.numbers.specs.declared.ChannelNo.{ChannelNo}
 use Rattle.network.specs.Counting.{one}
-use Rattle.network.specs.Network.{Network, Phase, resting, asking, ready, answering, nodeCount, channelCount, slotCount, channel}
+use Rattle.network.specs.Network.{Network, Phase, resting, asking, ready, answering, nodeCount, channelCount, slotCount, sameChannel, channel}
 use Rattle.network.specs.Sound.{Limits}
 use Rattle.network.specs.Calls.{Event, Delivery, deliveryIn, Outcome, refused, accepted}
 use Rattle.network.specs.Calls
@@ -15,14 +16,14 @@ use Rattle.network.specs.Calls
 -- the ring calls, with any arguments
 pub data Call : Type 0 where
   addNode : ℕ → Call
-  addChannel : ℕ → ℕ → Call
+  addChannel : NodeNo → NodeNo → Call
   start : Call
-  receive : ℕ → Call
-  send : ℕ → BatchRecord → Call
-  enter : ℕ → Call
-  move : ℕ → Call
-  hopsLeft : ℕ → Call
-  waitingSet : ℕ → Call
+  receive : ChannelNo → Call
+  send : ChannelNo → BatchRecord → Call
+  enter : NodeNo → Call
+  move : NodeNo → Call
+  hopsLeft : ChannelNo → Call
+  waitingSet : NodeNo → Call
 
 abbrev pub call : Limits → Call → Network → Outcome Network
 call L (addNode slots) σ = Calls.addNode L slots σ
@@ -48,11 +49,11 @@ counts (hopsLeft k) = false
 counts (waitingSet p) = false
 
 -- record x of channel j, as channel k sees it
-abbrev pub onChannel : ℕ → ℕ → BatchRecord → List BatchRecord
-onChannel k j x = cond (eqb j k) (x ∷ []) []
+abbrev pub onChannel : ChannelNo → ChannelNo → BatchRecord → List BatchRecord
+onChannel k j x = cond (sameChannel j k) (x ∷ []) []
 
 -- a call's record, if it is a send on channel k
-abbrev pub sentOn : ℕ → Call → List BatchRecord
+abbrev pub sentOn : ChannelNo → Call → List BatchRecord
 sentOn k (addNode slots) = []
 sentOn k (addChannel s r) = []
 sentOn k start = []
@@ -64,11 +65,11 @@ sentOn k (hopsLeft j) = []
 sentOn k (waitingSet p) = []
 
 -- the record in an answer that holds channel k
-abbrev pub recordOn : ℕ → Option Delivery → List BatchRecord
+abbrev pub recordOn : ChannelNo → Option Delivery → List BatchRecord
 recordOn k none = []
 recordOn k (some d) = onChannel k (d .channel) (d .«record»)
 
-abbrev pub handedOn : ℕ → Event → List BatchRecord
+abbrev pub handedOn : ChannelNo → Event → List BatchRecord
 handedOn k e = recordOn k (deliveryIn e)
 
 module _ {S : Type 0} where
@@ -85,11 +86,11 @@ module _ {S : Type 0} where
   countedBy a (refused r) = 0
   countedBy a (accepted e t) = one (counts a)
 
-  abbrev pub offeredBy : ℕ → Call → Outcome S → List BatchRecord
+  abbrev pub offeredBy : ChannelNo → Call → Outcome S → List BatchRecord
   offeredBy k a (refused r) = []
   offeredBy k a (accepted e t) = sentOn k a
 
-  abbrev pub deliveredBy : ℕ → Outcome S → List BatchRecord
+  abbrev pub deliveredBy : ChannelNo → Outcome S → List BatchRecord
   deliveredBy k (refused r) = []
   deliveredBy k (accepted e t) = handedOn k e
 
@@ -105,12 +106,12 @@ module _ {S : Type 0} (step : Call → S → Outcome S) where
   counted (a ∷ calls) s = countedBy a (step a s) + counted calls (after s (step a s))
 
   -- offered on channel k: the records of the run's accepted sends on it, in the order of the calls
-  abbrev pub offeredOn : ℕ → List Call → S → List BatchRecord
+  abbrev pub offeredOn : ChannelNo → List Call → S → List BatchRecord
   offeredOn k [] s = []
   offeredOn k (a ∷ calls) s = offeredBy k a (step a s) ++ offeredOn k calls (after s (step a s))
 
   -- delivered on channel k: the records in the answers that hold this channel, in that order
-  abbrev pub deliveredOn : ℕ → List Call → S → List BatchRecord
+  abbrev pub deliveredOn : ChannelNo → List Call → S → List BatchRecord
   deliveredOn k [] s = []
   deliveredOn k (a ∷ calls) s = deliveredBy k (step a s) ++ deliveredOn k calls (after s (step a s))
 
@@ -121,7 +122,7 @@ matchedIn asking o = o
 matchedIn ready o = none
 matchedIn (answering x) o = some x
 
-abbrev pub matched : Network → ℕ → Option BatchRecord
+abbrev pub matched : Network → ChannelNo → Option BatchRecord
 matched σ m = matchedIn (channel σ m .phase) (channel σ m .offer)
 
 -- (n + 4) × (2b + 2cn + 6c)

@@ -6,9 +6,10 @@ use lib.Dec.{leb, ltb, eqb}
 use lib.ListN.{length}
 use Rattle.batch.specs.declared.BatchRecord.{BatchRecord}
 use Rattle.batch.specs.Good.{every, goodRecord}
-use Rattle.hops.specs.Hops.{hops}
+use Rattle.numbers.specs.declared.NodeNo.{NodeNo}
+use Rattle.numbers.specs.declared.ChannelNo.{ChannelNo}
 use Rattle.network.specs.Counting.{one, allBelow, occupied}
-use Rattle.network.specs.Network.{Network, Phase, resting, asking, ready, answering, nodeCount, channelCount, slotCount, node, channel, moving, entry, target, timesOn}
+use Rattle.network.specs.Network.{Network, Phase, resting, asking, ready, answering, nodeCount, channelCount, slotCount, nodeNo, channelNo, sameNode, node, channel, isNode, isChannel, hopsOn, moving, entry, target, timesOn}
 
 -- what a size of ring allows: so many nodes, so many channels, so many slots a node
 pub record Limits : Type 0 where
@@ -52,19 +53,18 @@ goodCarried ready = true
 goodCarried (answering x) = goodRecord x
 
 -- Channel k may stand in the line of node p: only at its own node.
-abbrev pub lineFits : Network → ℕ → ℕ → Bool
-lineFits σ p k = ltb k (channelCount σ) && eqb p (entry σ k)
+abbrev pub lineFits : Network → NodeNo → ChannelNo → Bool
+lineFits σ p k = isChannel σ k && sameNode p (entry σ k)
 
 -- Channel k may stand in the buffer of node p: from its node of entry up to the node before its target in ring order, that is, no
 -- further from the target than the entry is (Way has the nodes one by one). For a same-node channel that is any node.
-abbrev pub bufferFits : Network → ℕ → ℕ → Bool
+abbrev pub bufferFits : Network → NodeNo → ChannelNo → Bool
 bufferFits σ p k =
-    ltb k (channelCount σ)
-    && leb (hops (nodeCount σ) p (target σ k)) (hops (nodeCount σ) (entry σ k) (target σ k))
+    isChannel σ k && leb (hopsOn (nodeCount σ) p (target σ k)) (hopsOn (nodeCount σ) (entry σ k) (target σ k))
 
 -- a node of the ring: 1 to the most slots, no buffer longer than its slots, every message in a fit place, a turn mark only with a
 -- line that isn't empty
-unfoldable pub soundNode : Limits → Network → ℕ → Bool
+unfoldable pub soundNode : Limits → Network → NodeNo → Bool
 soundNode L σ p =
     leb 1 (node σ p .slots)
     && leb (node σ p .slots) (L .slots)
@@ -75,10 +75,10 @@ soundNode L σ p =
 
 -- a channel of the ring: its ends are nodes; asking or answering exactly once on the ring, otherwise nowhere; a ready channel has no
 -- offer; its records are good
-unfoldable pub soundChannel : Network → ℕ → Bool
+unfoldable pub soundChannel : Network → ChannelNo → Bool
 soundChannel σ k =
-    ltb (channel σ k .sender) (nodeCount σ)
-    && ltb (channel σ k .receiver) (nodeCount σ)
+    isNode σ (channel σ k .sender)
+    && isNode σ (channel σ k .receiver)
     && eqb (timesOn σ k) (one (moving (channel σ k .phase)))
     && (not (isReady (channel σ k .phase)) || absent (channel σ k .offer))
     && goodOffer (channel σ k .offer)
@@ -87,8 +87,8 @@ soundChannel σ k =
 -- not started: all resting, no offers, no marks, count 0
 unfoldable pub soundBefore : Network → Bool
 soundBefore σ =
-    allBelow (channelCount σ) (λ k. isResting (channel σ k .phase) && absent (channel σ k .offer))
-    && allBelow (nodeCount σ) (λ p. not (node σ p .mark))
+    allBelow (channelCount σ) (λ k. isResting (channel σ (channelNo k) .phase) && absent (channel σ (channelNo k) .offer))
+    && allBelow (nodeCount σ) (λ p. not (node σ (nodeNo p) .mark))
     && eqb (σ .deliveries) 0
 
 -- started: n and c at least 1, b greater than c
@@ -100,6 +100,6 @@ sound L σ =
     leb (nodeCount σ) (L .nodes)
     && leb (channelCount σ) (L .channels)
     && leb (σ .deliveries) lastCount
-    && allBelow (nodeCount σ) (soundNode L σ)
-    && allBelow (channelCount σ) (soundChannel σ)
+    && allBelow (nodeCount σ) (λ p. soundNode L σ (nodeNo p))
+    && allBelow (channelCount σ) (λ k. soundChannel σ (channelNo k))
     && cond (σ .started) (soundAfter σ) (soundBefore σ)

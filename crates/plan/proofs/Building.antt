@@ -7,9 +7,10 @@ use lib.Dec.{leb, ltb}
 use lib.ListN.{getD, set}
 use borrow.Author.Tests.{lt-ltb, le-ltb, le-leb, lt-leb}
 use Rattle.refusal.specs.declared.Refusal.the-variants.{NodesFull, BadSlots, ChannelsFull, NoSuchEnd, NothingToStart, TooFewSlots}
+use Rattle.numbers.specs.declared.NodeNo.{NodeNo}
 use Rattle.network.specs.declared.Ring.{Ring}
 use Rattle.network.specs.Counting.{sum}
-use Rattle.network.specs.Network.{nodeCount, channelCount, slotCount, node}
+use Rattle.network.specs.Network.{nodeNo, nodeCount, channelCount, slotCount, node}
 use Rattle.network.specs.Calls.{done, refused, accepted}
 use Rattle.network.specs.Calls
 use Rattle.network.specs.Runs
@@ -74,38 +75,38 @@ module _ {ring : Ring} (h : Planned ring) where
 
   -- add channel
 
-  module _ (s r : ℕ) where
+  module _ (s r : NodeNo) where
     pub add-channel-full : ringLimits .channels ≤ ring .head .«channel_count» →
         callRing (Runs.addChannel s r) ring ≡ refused ChannelsFull
     unfolding Calls.addChannel
     add-channel-full full = rw (sound-called (Runs.addChannel s r) ring (h .ok), waits, channel-count, le-ltb _ _ full)
 
     module _ (room : ring .head .«channel_count» < ringLimits .channels) where
-      no-end : (ltb s (ring .head .«node_count») && ltb r (ring .head .«node_count»)) ≡ false →
+      no-end : (ltb (s .0) (ring .head .«node_count») && ltb (r .0) (ring .head .«node_count»)) ≡ false →
           callRing (Runs.addChannel s r) ring ≡ refused NoSuchEnd
       unfolding Calls.addChannel
       no-end bad = rw (sound-called (Runs.addChannel s r) ring (h .ok), waits, channel-count, lt-ltb _ _ room, node-count, bad)
 
-      pub add-channel-no-sender : ring .head .«node_count» ≤ s → callRing (Runs.addChannel s r) ring ≡ refused NoSuchEnd
-      add-channel-no-sender beyond = no-end (rw (le-ltb s (ring .head .«node_count») beyond))
+      pub add-channel-no-sender : ring .head .«node_count» ≤ s .0 → callRing (Runs.addChannel s r) ring ≡ refused NoSuchEnd
+      add-channel-no-sender beyond = no-end (rw (le-ltb (s .0) (ring .head .«node_count») beyond))
 
-      pub add-channel-no-receiver : s < ring .head .«node_count» → ring .head .«node_count» ≤ r →
+      pub add-channel-no-receiver : s .0 < ring .head .«node_count» → ring .head .«node_count» ≤ r .0 →
           callRing (Runs.addChannel s r) ring ≡ refused NoSuchEnd
       add-channel-no-receiver there beyond =
-          no-end (rw (lt-ltb s (ring .head .«node_count») there, le-ltb r (ring .head .«node_count») beyond))
+          no-end (rw (lt-ltb (s .0) (ring .head .«node_count») there, le-ltb (r .0) (ring .head .«node_count») beyond))
 
-      pub add-channel-done : s < ring .head .«node_count» → r < ring .head .«node_count» →
+      pub add-channel-done : s .0 < ring .head .«node_count» → r .0 < ring .head .«node_count» →
           callRing (Runs.addChannel s r) ring
           ≡ accepted done
           (withHead ring
           (planned (ring .head) (ring .head .started) (ring .head .«node_count») (ring .head .«channel_count» + 1) (ring .head .capacity)
-          (set (ring .head .senders) (ring .head .«channel_count») s)
-          (set (ring .head .receivers) (ring .head .«channel_count») r)))
+          (set (ring .head .senders) (ring .head .«channel_count») (s .0))
+          (set (ring .head .receivers) (ring .head .«channel_count») (r .0))))
       unfolding Calls.addChannel
       add-channel-done sends receives =
           let free : channelCount (view ring) < ringLimits .channels = rw channel-count room in
-          let s-there : s < nodeCount (view ring) = rw node-count sends in
-          let r-there : r < nodeCount (view ring) = rw node-count receives in
+          let s-there : s .0 < nodeCount (view ring) = rw node-count sends in
+          let r-there : r .0 < nodeCount (view ring) = rw node-count receives in
           rw (sound-called (Runs.addChannel s r) ring (h .ok), waits, lt-ltb _ _ free, lt-ltb _ _ s-there, lt-ltb _ _ r-there)
           (ap (accepted done)
           (hold-with-new-channel (view ring) s r free
@@ -113,8 +114,8 @@ module _ {ring : Ring} (h : Planned ring) where
           withHead (known .laid-out i)
           (planned (known .laid-out i .head) (known .laid-out i .head .started) (node-count i) (channel-count i + 1)
           (known .laid-out i .head .capacity)
-          (set (known .laid-out i .head .senders) (channel-count i) s)
-          (set (known .laid-out i .head .receivers) (channel-count i) r)))))
+          (set (known .laid-out i .head .senders) (channel-count i) (s .0))
+          (set (known .laid-out i .head .receivers) (channel-count i) (r .0))))))
 
   -- start
 
@@ -129,9 +130,9 @@ module _ {ring : Ring} (h : Planned ring) where
   -- the slots of all nodes there is room for are those of the nodes added: the others have none
   slots-are : sum nodeRoom (λ p. getD (ring .head .capacity) p 0) ≡ slotCount (view ring)
   slots-are =
-      sum-same nodeRoom (λ p. getD (ring .head .capacity) p 0) (λ p. node (view ring) p .slots)
+      sum-same nodeRoom (λ p. getD (ring .head .capacity) p 0) (λ p. node (view ring) (nodeNo p) .slots)
       (λ p l. known .holds .nodes p l .capacity)
-      ∙ sum-beyond nodeRoom (nodeCount (view ring)) (λ p. node (view ring) p .slots) (known .fits .nodes-fit)
+      ∙ sum-beyond nodeRoom (nodeCount (view ring)) (λ p. node (view ring) (nodeNo p) .slots) (known .fits .nodes-fit)
       (λ p beyond l. ap (λ s. s .slots) (no-node (view ring) p beyond))
 
   module _ (some-node : 1 ≤ ring .head .«node_count») where

@@ -64,7 +64,7 @@ pub fn add_channel(
 ) -> HeadStep
     ensures { λ r. ⌜ stepIn r (now (slots .entry)) (now (lines .entry)) (now (offers .entry)) (now (carried .entry))
         ≡ stepOf (ringIn head (now (slots .entry)) (now (lines .entry)) (now (offers .entry)) (now (carried .entry)))
-        (callRing (Runs.addChannel (sender .0) (receiver .0))
+        (callRing (Runs.addChannel sender receiver)
         (ringIn head (now (slots .entry)) (now (lines .entry)) (now (offers .entry)) (now (carried .entry)))) ⌝ }
 {
     let opening = open(head, slots, lines, offers, carried, Subject::Plan);

@@ -28,7 +28,7 @@ pub fn add_node(ring: Ring, capacity: u8) -> Step
 
 // A channel between two nodes comes after the others, at rest.
 pub fn add_channel(ring: Ring, sender: NodeNo, receiver: NodeNo) -> Step
-    ensures { λ r. ⌜ r ≡ stepOf ring (callRing (Runs.addChannel (sender .0) (receiver .0)) ring) ⌝ }
+    ensures { λ r. ⌜ r ≡ stepOf ring (callRing (Runs.addChannel sender receiver) ring) ⌝ }
 {
     let head = ring.head;
     let slots = ring.slots;

@@ -14,17 +14,20 @@ use lib.ListN.{length, getD, take}
 use lib.Seq.{take-suc, take-all}
 use borrow.Author.Tests.{lt-ltb, eq-eqb, ne-eqb}
 use Rattle.batch.specs.declared.BatchRecord.{BatchRecord}
+use Rattle.numbers.specs.declared.NodeNo.{NodeNo}
+use Rattle.numbers.specs.declared.ChannelNo.{ChannelNo}
 use Rattle.hops.specs.Hops.{hops, sheetNodes, sheetHops}
 use Rattle.hops.proofs.Laws.{hops-to-n, on-sheet, off-sheet}
 use Rattle.network.specs.declared.Head.{Head}
 use Rattle.network.specs.declared.Ring.{Ring}
 use Rattle.network.specs.Counting.{one, weigh, count}
-use Rattle.network.specs.Network.{Network, ChannelState, asking, answering, nodeCount, node, channel}
+use Rattle.network.specs.Network.{Network, ChannelState, asking, answering, nodeNo, channelNo, numbersOf, timesIn, nodeCount, node, channel}
 use Rattle.network.specs.Calls.{hopsAre, accepted, holder, hopsLeftOf, hopsOf}
 use Rattle.network.specs.Calls
 use Rattle.network.specs.Runs
 use Rattle.network.specs.Layout.{rowLength, cellsOf, view, hold, soundRing, callRing}
 use Rattle.network.proofs.Ground.Splits.{by-test, by-same, by-less, by-phase}
+use Rattle.network.proofs.Ground.Numbers.{length-numbers}
 use Rattle.network.proofs.Ground.Counting.{weigh-snoc}
 use Rattle.network.proofs.Memory.Rows.{getD-padded, getD-row}
 use Rattle.network.proofs.Memory.Held.{SoundRing, sound-ring, HeldNode}
@@ -89,7 +92,7 @@ same-higher a b =
     by-same a b (λ e. eq-eqb _ _ (ap suc e) ∙ sym (eq-eqb a b e))
     (λ d. ne-eqb (suc a) (suc b) (λ e. d (omega arith)) ∙ sym (ne-eqb a b d))
 
-higher-at : (xs : List ℕ) (i : ℕ) → i < length xs → getD (cellsOf xs) i 0 ≡ suc (getD xs i 0)
+higher-at : (xs : List ChannelNo) (i : ℕ) → i < length (numbersOf xs) → getD (cellsOf xs) i 0 ≡ suc (getD (numbersOf xs) i 0)
 higher-at [] i l = absurd (omega arith)
 higher-at (x ∷ xs) zero l = refl
 higher-at (x ∷ xs) (suc i) l = higher-at xs i (omega arith)
@@ -127,23 +130,23 @@ pub way-found : (n q : ℕ) {r from p : ℕ} → r ≡ sheetHops n from q → fr
 way-found n q said found = said ∙ ap (λ p. sheetHops n p q) found
 
 -- the node where a message is: the one that holds it in its buffer, or else the node of entry
-abbrev standsAt : Option ℕ → ℕ → ℕ
+abbrev standsAt : Option NodeNo → ℕ → ℕ
 standsAt none entry = entry
-standsAt (some p) entry = p
+standsAt (some p) entry = p .0
 
-stands-below : (σ : Network) (k entry n m : ℕ) → entry < n → m ≤ n → standsAt (holder σ k m) entry < n
+stands-below : (σ : Network) (k : ChannelNo) (entry n m : ℕ) → entry < n → m ≤ n → standsAt (holder σ k m) entry < n
 unfolding holder
 stands-below σ k entry n zero l h = l
 stands-below σ k entry n (suc m) l h =
-    by-test (ltb 0 (count k (node σ m .buffer))) (λ t. rw t (omega arith)) (λ t. rw t (stands-below σ k entry n m l (omega arith)))
+    by-test (ltb 0 (timesIn (node σ (nodeNo m) .buffer) k)) (λ t. rw t (omega arith)) (λ t. rw t (stands-below σ k entry n m l (omega arith)))
 
-asking-hops : (n : ℕ) (s : ChannelState) (at : Option ℕ) →
-    hopsLeftOf n s asking at ≡ hops n (standsAt at (s .receiver)) (s .sender) + hops n (s .sender) (s .receiver)
+asking-hops : (n : ℕ) (s : ChannelState) (at : Option NodeNo) →
+    hopsLeftOf n s asking at ≡ hops n (standsAt at (s .receiver .0)) (s .sender .0) + hops n (s .sender .0) (s .receiver .0)
 asking-hops n s none = refl
 asking-hops n s (some p) = refl
 
-answering-hops : (n : ℕ) (s : ChannelState) (x : BatchRecord) (at : Option ℕ) →
-    hopsLeftOf n s (answering x) at ≡ hops n (standsAt at (s .sender)) (s .receiver)
+answering-hops : (n : ℕ) (s : ChannelState) (x : BatchRecord) (at : Option NodeNo) →
+    hopsLeftOf n s (answering x) at ≡ hops n (standsAt at (s .sender .0)) (s .receiver .0)
 answering-hops n s x none = refl
 answering-hops n s x (some p) = refl
 
@@ -160,10 +163,10 @@ module _ {ring : Ring} {k : ℕ} (h : AtChannel ring k) where
 
   module _ (p : ℕ) (there : p < n) where
     abbrev buffer : List ℕ
-    buffer = node σ p .buffer
+    buffer = numbersOf (node σ (nodeNo p) .buffer)
 
     short-buffer : length buffer ≤ rowLength
-    short-buffer = known .fits .buffer-fits p there
+    short-buffer = rw length-numbers (known .fits .buffer-fits p there)
 
     numbers : HeldNode ring σ p
     numbers = known .holds .nodes p (omega (arith, known .fits .nodes-fit))
@@ -172,25 +175,27 @@ module _ {ring : Ring} {k : ℕ} (h : AtChannel ring k) where
     higher-cell i l =
         sym (getD-row rowLength (ring .slots) p i (omega (arith, short-buffer)))
         ∙ ap (λ r. getD r i 0) (numbers .buffer-row)
-        ∙ getD-padded rowLength (cellsOf buffer) i (omega (arith, short-buffer))
-        ∙ higher-at buffer i l
+        ∙ getD-padded rowLength (cellsOf (node σ (nodeNo p) .buffer)) i (omega (arith, short-buffer))
+        ∙ higher-at (node σ (nodeNo p) .buffer) i l
 
     stands-in-buffer : standsIn (ring .slots) (rowLength * p) (k + 1) (usedAt (ring .head) p) ≡ ltb 0 (count k buffer)
-    stands-in-buffer = rw (add-one k, numbers .used) (stands-where (ring .slots) (rowLength * p) k buffer higher-cell)
+    stands-in-buffer =
+        rw (add-one k, numbers .used, ← length-numbers (node σ (nodeNo p) .buffer))
+        (stands-where (ring .slots) (rowLength * p) k buffer higher-cell)
 
-  place-held : (entry m : ℕ) → m ≤ n → placeIn (ring .head) (ring .slots) (k + 1) entry m ≡ standsAt (holder σ k m) entry
+  place-held : (entry m : ℕ) → m ≤ n → placeIn (ring .head) (ring .slots) (k + 1) entry m ≡ standsAt (holder σ (channelNo k) m) entry
   unfolding placeIn holder
   place-held entry zero l = refl
   place-held entry (suc p) l =
       rw (stands-in-buffer p (omega arith))
-      (by-test (ltb 0 (count k (node σ p .buffer))) (λ t. rw t) (λ t. rw t (place-held entry p (omega arith))))
+      (by-test (ltb 0 (timesIn (node σ (nodeNo p) .buffer) (channelNo k))) (λ t. rw t) (λ t. rw t (place-held entry p (omega arith))))
 
   -- the ends are nodes of the ring, and so is the node where the message stands
   abbrev sender : ℕ
-  sender = channel σ k .sender
+  sender = channel σ (channelNo k) .sender .0
 
   abbrev receiver : ℕ
-  receiver = channel σ k .receiver
+  receiver = channel σ (channelNo k) .receiver .0
 
   sender-below : sender < n
   sender-below = known .facts .each-channel k (channel-there h) .sender-below
@@ -199,7 +204,7 @@ module _ {ring : Ring} {k : ℕ} (h : AtChannel ring k) where
   receiver-below = known .facts .each-channel k (channel-there h) .receiver-below
 
   abbrev from : ℕ → ℕ
-  from entry = standsAt (holder σ k n) entry
+  from entry = standsAt (holder σ (channelNo k) n) entry
 
   on-the-sheet : (p q : ℕ) → p < n → q < n → sheetHops (ring .head .«node_count») p q ≡ hops n p q
   on-the-sheet p q lp lq =
@@ -210,24 +215,24 @@ module _ {ring : Ring} {k : ℕ} (h : AtChannel ring k) where
       let count = known .holds .node-count in
       ap (λ p. sheetHops (ring .head .«node_count») p q)
       (ap (placeIn (ring .head) (ring .slots) (k + 1) entry) count ∙ place-held entry n (omega arith))
-      ∙ on-the-sheet (from entry) q (stands-below σ k entry n n le (omega arith)) lq
+      ∙ on-the-sheet (from entry) q (stands-below σ (channelNo k) entry n n le (omega arith)) lq
 
-  hops-found : hopsIn (ring .head) (ring .slots) k ≡ hopsOf σ k
+  hops-found : hopsIn (ring .head) (ring .slots) k ≡ hopsOf σ (channelNo k)
   unfolding hopsOf
   hops-found =
       let c = channel-numbers h in
-      let at = holder σ k n in
+      let at = holder σ (channelNo k) n in
       let back = on-the-sheet sender receiver sender-below receiver-below in
       let there = way-is receiver sender receiver-below sender-below in
       rw (c .sender, c .receiver, c .phase)
-      (by-phase (channel σ k .phase) (λ e. rw e)
-      (λ e. rw (e, there, back) (sym (asking-hops n (channel σ k) at)))
+      (by-phase (channel σ (channelNo k) .phase) (λ e. rw e)
+      (λ e. rw (e, there, back) (sym (asking-hops n (channel σ (channelNo k)) at)))
       (λ e. rw e back)
-      (λ x e. rw (e, way-is sender receiver sender-below receiver-below) (sym (answering-hops n (channel σ k) x at))))
+      (λ x e. rw (e, way-is sender receiver sender-below receiver-below) (sym (answering-hops n (channel σ (channelNo k)) x at))))
 
-  called : callRing (Runs.hopsLeft k) ring ≡ accepted (hopsAre (hopsOf σ k)) (hold σ)
+  called : callRing (Runs.hopsLeft (channelNo k)) ring ≡ accepted (hopsAre (hopsOf σ (channelNo k))) (hold σ)
   unfolding Calls.hopsLeft
-  called = rw (sound-called (Runs.hopsLeft k) ring (h .ok), channel-running h, lt-ltb _ _ (channel-there h))
+  called = rw (sound-called (Runs.hopsLeft (channelNo k)) ring (h .ok), channel-running h, lt-ltb _ _ (channel-there h))
 
-  pub hops-answered : callRing (Runs.hopsLeft k) ring ≡ accepted (hopsAre (hopsIn (ring .head) (ring .slots) k)) ring
+  pub hops-answered : callRing (Runs.hopsLeft (channelNo k)) ring ≡ accepted (hopsAre (hopsIn (ring .head) (ring .slots) k)) ring
   hops-answered = called ∙ λ i. accepted (hopsAre (sym hops-found i)) (known .laid-out i)

@@ -43,7 +43,7 @@ hopsIn h slots k =
     (cond (eqb (phaseAt h k) 1) (wayIn h slots k (receiverAt h k) (senderAt h k) + backIn h k)
     (wayIn h slots k (senderAt h k) (receiverAt h k))))
 
--- a channel that waits at node p (Tasks.antt) as a bit, by the numbers of its receiver and its phase
+-- channel k waits at node p, as a bit, by the numbers of its receiver and its phase
 abbrev pub waitsBy : ℕ → ℕ → ℕ → ℕ
 waitsBy p receiver phase = one (eqb receiver p && not (eqb phase 0))
 

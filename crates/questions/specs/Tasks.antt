@@ -2,9 +2,8 @@
 -- answers it. Assumes nothing.
 use Prim.Native.Nat.{ℕ}
 use mathlib.Core.Path.{_≡_}
-use mathlib.Core.Bool.{Bool, _&&_, not}
 use lib.Count.{ones}
-use lib.Dec.{eqb, ltb}
+use lib.Dec.{ltb}
 use Rattle.refusal.specs.Number.{numberOf}
 use Rattle.numbers.specs.declared.NodeNo.{NodeNo}
 use Rattle.network.specs.declared.Answer.{Answer}
@@ -12,26 +11,21 @@ use Rattle.network.specs.declared.Answer.the-variants.{Done, Delivered, Hops}
 use Rattle.network.specs.declared.Answer.the-variants as answer
 use Rattle.network.specs.declared.Ring.{Ring}
 use Rattle.network.specs.Counting.{one, sum}
-use Rattle.network.specs.Network.{Network, ChannelState, nodeCount, channelCount, channel}
-use Rattle.network.specs.Sound.{isResting}
-use Rattle.network.specs.Calls.{unless, waitingOf}
+use Rattle.network.specs.Network.{Network, channelNo, nodeCount, channelCount, channel}
+use Rattle.network.specs.Calls.{unless, waits, waitingOf}
 use Rattle.network.specs.Runs
 use Rattle.network.specs.Answers.{replyOf}
 use Rattle.network.specs.Layout.{view, soundRing, callRing}
 use Rattle.questions.specs.declared.Tasks.{Tasks}
 use Rattle.questions.specs.declared.Tasks.the-variants.{Waiting, Refused}
 
--- the channel's receiver is node p, and it is not resting: a task of p waits on it
-abbrev pub waits : ℕ → ChannelState → Bool
-waits p s = eqb (s .receiver) p && not (isResting (s .phase))
-
 -- how many tasks of node p wait: the channels of the ring on which one waits, counted one by one
-abbrev pub tasksOf : Network → ℕ → ℕ
-tasksOf σ p = sum (channelCount σ) (λ k. one (waits p (channel σ k)))
+abbrev pub tasksOf : Network → NodeNo → ℕ
+tasksOf σ p = sum (channelCount σ) (λ k. one (waits p (channel σ (channelNo k))))
 
 -- "How many tasks of a node wait is the number of ones in its 64-bit set": of any ring, whatever number of channels it has
 abbrev pub OnesAreTasks : Type 0
-OnesAreTasks = (σ : Network) (p : ℕ) → ones (waitingOf σ p) ≡ tasksOf σ p
+OnesAreTasks = (σ : Network) (p : NodeNo) → ones (waitingOf σ p) ≡ tasksOf σ p
 
 -- the answer in code: what the waiting set is answered with, its ones counted; it is answered with a set or a refusal and nothing else
 abbrev pub tasksIn : Answer → Tasks
@@ -42,7 +36,7 @@ tasksIn (answer.Waiting set) = Waiting (ones set)
 tasksIn (answer.Refused r) = Refused r
 
 abbrev pub tasksTo : NodeNo → Ring → Tasks
-tasksTo node ring = tasksIn (replyOf (callRing (Runs.waitingSet (node .0)) ring) .answer)
+tasksTo node ring = tasksIn (replyOf (callRing (Runs.waitingSet node) ring) .answer)
 
 -- document 01's number and value for each case of the answer; a refusal answers its number alone
 pub record Said : Type 0 where
@@ -61,7 +55,7 @@ abbrev pub tasksSaid : NodeNo → Ring → Said
 tasksSaid node ring =
     unless (soundRing ring) (says 25 0)
     (unless (ltb (node .0) (nodeCount (view ring))) (says 16 0)
-    (says 0 (tasksOf (view ring) (node .0))))
+    (says 0 (tasksOf (view ring) node)))
 
 -- the answer says just that
 abbrev pub TasksSaid : Type 0

@@ -28,7 +28,7 @@ pub fn hops_left(
     channel: ChannelNo,
 ) -> Answer
     ensures { λ r. ⌜ r
-        ≡ replyOf (callRing (hopsLeft (channel .0))
+        ≡ replyOf (callRing (hopsLeft channel)
         (ringIn head (now (slots .entry)) (now (lines .entry)) (now (offers .entry)) (now (carried .entry)))) .answer ⌝ }
 {
     let subject = Subject::Channel(channel);
@@ -110,7 +110,7 @@ pub fn waiting_set(
     node: NodeNo,
 ) -> Answer
     ensures { λ r. ⌜ r
-        ≡ replyOf (callRing (waitingSet (node .0))
+        ≡ replyOf (callRing (waitingSet node)
         (ringIn head (now (slots .entry)) (now (lines .entry)) (now (offers .entry)) (now (carried .entry)))) .answer ⌝ }
 {
     let subject = Subject::Tasks(node);

@@ -23,7 +23,7 @@ pub enum Tasks {
 
 // How many hops the channel's record has still to go, or its request and then the record.
 pub fn hops_left(ring: Ring, channel: ChannelNo) -> Answer
-    ensures { λ r. ⌜ r ≡ replyOf (callRing (hopsLeft (channel .0)) ring) .answer ⌝ }
+    ensures { λ r. ⌜ r ≡ replyOf (callRing (hopsLeft channel) ring) .answer ⌝ }
 {
     let head = ring.head;
     let slots = ring.slots;
@@ -35,7 +35,7 @@ pub fn hops_left(ring: Ring, channel: ChannelNo) -> Answer
 
 // The channels whose receiver is the node and that are not resting, as a set of bits, channel 0 being the lowest.
 pub fn waiting_set(ring: Ring, node: NodeNo) -> Answer
-    ensures { λ r. ⌜ r ≡ replyOf (callRing (waitingSet (node .0)) ring) .answer ⌝ }
+    ensures { λ r. ⌜ r ≡ replyOf (callRing (waitingSet node) ring) .answer ⌝ }
 {
     let head = ring.head;
     let slots = ring.slots;

@@ -1,6 +1,6 @@
 -- The lines of the report that document 01 shows are what the definitions say, by computation. Assumes nothing.
 use mathlib.Core.Path.{refl}
-use Rattle.report.specs.Digits.{digits, decimal, hex2, signed}
+use Rattle.text.specs.Digits.{digits, decimal, hex2, signed}
 use Rattle.report.specs.Line.{recordFields, lineOf, endOf}
 use Rattle.report.specs.Examples.{AsShown}
 

@@ -1,5 +1,3 @@
--- The laws of the report: of its numbers, of text that is appended, and of a line that is put where there is room.
-pub mod Digits
-pub mod Appends
+-- The laws of the report: of a line that is put where there is room, and the lines that document 01 shows.
 pub mod Room
 pub mod Examples

@@ -6,9 +6,10 @@ use lib.ListN.{length, take}
 use borrow.Author.Tests.{le-leb, lt-leb}
 use Rattle.report.specs.declared.Put.{Put}
 use Rattle.report.specs.declared.Put.the-variants.{Written, NoRoom}
-use Rattle.report.specs.Appends.{Appends}
+use Rattle.text.specs.Appends.{Appends}
 use Rattle.report.specs.Line.{lineRoom}
-use Rattle.report.specs.Put.{putAnswer, laid, put}
+use Rattle.text.specs.Fields.{laid}
+use Rattle.report.specs.Put.{putAnswer, put}
 
 module _ (buffer : List ℕ) (place : ℕ) (line : List ℕ) where
   pub no-room : length buffer < place + length line → (NoRoom ≡ putAnswer buffer place line) × (buffer ≡ put buffer place line)

@@ -4,17 +4,16 @@ use mathlib.Core.List.{List, [], _∷_, _++_}
 use mathlib.Core.Option.{Option, none, some}
 use lib.ListN.{take}
 use Rattle.batch.specs.declared.BatchRecord.{BatchRecord}
+use Rattle.numbers.specs.declared.ChannelNo.{ChannelNo}
 use Rattle.network.specs.declared.Reply.{Reply}
 use Rattle.network.specs.Calls.{Delivery}
 use Rattle.network.specs.Answers.{numberIn, deliveredIn}
-use Rattle.report.specs.Digits.{decimal, hex2, signed}
+use Rattle.text.specs.Digits.{decimal, hex2, signed}
+use Rattle.text.specs.Fields.{space, field, nameField}
 
 -- room for any line: none is longer
 abbrev pub lineRoom : ℕ
 lineRoom = 160
-
-abbrev pub space : ℕ
-space = 0x20
 
 -- what ends a line
 abbrev pub newline : ℕ
@@ -32,19 +31,10 @@ endBytes = 0x65 ∷ 0x6E ∷ 0x64 ∷ []
 abbrev pub tooLongBytes : List ℕ
 tooLongBytes = 0x74 ∷ 0x6F ∷ 0x6F ∷ 0x20 ∷ 0x6C ∷ 0x6F ∷ 0x6E ∷ 0x67 ∷ []
 
--- a number after a space
-abbrev pub field : ℕ → List ℕ
-field n = space ∷ decimal n
-
--- a name after a space, unless it is empty
-abbrev pub nameField : List ℕ → List ℕ
-nameField [] = []
-nameField (byte ∷ bytes) = space ∷ byte ∷ bytes
-
 -- channel, batch number, vessel, temperature, name length and name. A length over the name's 32 cells takes all of them.
-unfoldable pub recordFields : ℕ → BatchRecord → List ℕ
+unfoldable pub recordFields : ChannelNo → BatchRecord → List ℕ
 recordFields channel x =
-    field channel
+    field (channel .0)
     ++ field (x .batch .0)
     ++ field (x .vessel)
     ++ (space ∷ signed (x .temperature))

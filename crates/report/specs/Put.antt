@@ -1,9 +1,10 @@
 -- A line put into a lent buffer at a place: the whole line where it fits, or nothing. Assumes nothing.
 use Prim.Native.Nat.{ℕ, _+_}
 use mathlib.Core.Bool.{Bool, cond}
-use mathlib.Core.List.{List, _++_}
+use mathlib.Core.List.{List}
 use lib.Dec.{leb}
-use lib.ListN.{length, take, drop}
+use lib.ListN.{length}
+use Rattle.text.specs.Fields.{laid}
 use Rattle.report.specs.declared.Put.{Put}
 use Rattle.report.specs.declared.Put.the-variants.{Written, NoRoom}
 
@@ -13,10 +14,6 @@ fits buffer place line = leb (place + length line) (length buffer)
 
 unfoldable pub putAnswer : List ℕ → ℕ → List ℕ → Put
 putAnswer buffer place line = cond (fits buffer place line) (Written (place + length line)) NoRoom
-
--- the buffer with the line at its place, and all else as it was
-abbrev pub laid : List ℕ → ℕ → List ℕ → List ℕ
-laid buffer place line = take place buffer ++ line ++ drop (place + length line) buffer
 
 -- the buffer afterwards: with the line, or as it was
 unfoldable pub put : List ℕ → ℕ → List ℕ → List ℕ

@@ -1,17 +1,16 @@
 // The report of the tape program: each of its lines as bytes put into a lent buffer, the whole line where it fits and nothing
 // where it does not. A line is built in a text of its own first, so a refusal leaves the buffer as it was.
-mod text;
-
 use batch::BatchRecord;
 use network::Answer;
 use network::Reply;
 use numbers::ChannelNo;
+use text;
 ghost use mathlib.Core.List.{_++_};
 ghost use mathlib.Core.Path.{_≡_};
 ghost use Prim.Native.Nat.{_+_, _≤_};
 ghost use lib.ListN.{length};
 ghost use Rattle.network.specs.Answers.{numberIn, deliveredIn};
-ghost use Rattle.report.specs.Appends.{Appends};
+ghost use Rattle.text.specs.Appends.{Appends};
 ghost use Rattle.report.specs.Line.{lineRoom, deliveredBytes, recordFields, deliveryBytes, lineOf, endOf, tooLong};
 ghost use Rattle.report.specs.Put.{putAnswer, put};
 
@@ -39,7 +38,7 @@ fn refusal_in(answer: Answer) -> u8
 // What a delivery has after the refusal's number. The word takes 10 bytes, a number and its space 11, a signed one 12, a name 33.
 fn push_record(text: &mut [u8], at: usize, channel: ChannelNo, delivered: BatchRecord) -> usize
     requires { ⌜ at + 99 ≤ length (now text) ⌝ }
-    ensures { λ r. ⌜ Appends (now (text .entry)) (now (text .exit)) at r (deliveredBytes ++ recordFields (channel .0) delivered) 99 ⌝ }
+    ensures { λ r. ⌜ Appends (now (text .entry)) (now (text .exit)) at r (deliveredBytes ++ recordFields channel delivered) 99 ⌝ }
 {
     let channel_number = channel.0;
     let batch_number = delivered.batch.0;

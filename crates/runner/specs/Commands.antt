@@ -9,15 +9,15 @@ use Rattle.tape.specs.declared.Action.{Action}
 use Rattle.tape.specs.declared.Action.the-variants.{AddNode, AddChannel, Start, Receive, Send, Enter, Move}
 use Rattle.tape.specs.declared.Command.{Command}
 
--- the case of the ring calls that an action is; its operands are bytes, and become numbers of nodes and channels
+-- the case of the ring calls that an action is, with its operands
 abbrev pub ringCall : Action → RingCall
 ringCall (AddNode slots) = ring.AddNode slots
-ringCall (AddChannel sender receiver) = ring.AddChannel (record { 0 = sender }) (record { 0 = receiver })
+ringCall (AddChannel sender receiver) = ring.AddChannel sender receiver
 ringCall Start = ring.Start
-ringCall (Receive channel) = ring.Receive (record { 0 = channel })
-ringCall (Send channel) = ring.Send (record { 0 = channel })
-ringCall (Enter node) = ring.Enter (record { 0 = node })
-ringCall (Move node) = ring.Move (record { 0 = node })
+ringCall (Receive channel) = ring.Receive channel
+ringCall (Send channel) = ring.Send channel
+ringCall (Enter node) = ring.Enter node
+ringCall (Move node) = ring.Move node
 
 -- the ring after a command, and the reply
 unfoldable pub commandStep : Command → Ring → Step

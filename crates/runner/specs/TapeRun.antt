@@ -5,6 +5,7 @@ use mathlib.Core.Path.{_≡_}
 use mathlib.Core.List.{List, [], _∷_, _++_}
 use lib.ListN.{length}
 use Rattle.batch.specs.declared.BatchRecord.{BatchRecord}
+use Rattle.numbers.specs.declared.ChannelNo.{ChannelNo}
 use Rattle.network.specs.Layout.{freshRing, callRing}
 use Rattle.network.specs.Runs.{Call, run, offeredOn, deliveredOn}
 use Rattle.network.specs.Sound.{oneMore}
@@ -40,5 +41,5 @@ TooLongCallsNothing = (tape : List ℕ) (n : ℕ) → longest < length tape → 
 -- so on every channel the records that a tape delivers are the first of those that it offers, in order, each once
 abbrev pub TapeInOrder : Type 0
 TapeInOrder =
-    (tape : List ℕ) (n k : ℕ) → (left : List BatchRecord)
+    (tape : List ℕ) (n : ℕ) (k : ChannelNo) → (left : List BatchRecord)
     × (offeredOn callRing k (callsFrom n tape 0) freshRing ≡ deliveredOn callRing k (callsFrom n tape 0) freshRing ++ left)

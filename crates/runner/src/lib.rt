@@ -9,8 +9,6 @@ use network::Records;
 use network::Reply;
 use network::Ring;
 use network::RingCall;
-use numbers::ChannelNo;
-use numbers::NodeNo;
 use refusal::Refusal;
 use report::Put;
 use tape::Action;
@@ -107,18 +105,18 @@ fn code_at(tape: &[u8], place: usize) -> u8
     if place < tape.len() { tape[place] } else { 0 }
 }
 
-// The ring call of an action. Its operands are bytes; here they become numbers of nodes and channels.
+// The ring call of an action, with its operands.
 fn ring_call(action: Action) -> RingCall
     ensures { λ r. ⌜ r ≡ ringCall action ⌝ }
 {
     match action {
         Action::AddNode(slots) => RingCall::AddNode(slots),
-        Action::AddChannel(from, to) => RingCall::AddChannel(NodeNo(from), NodeNo(to)),
+        Action::AddChannel(from, to) => RingCall::AddChannel(from, to),
         Action::Start => RingCall::Start,
-        Action::Receive(channel) => RingCall::Receive(ChannelNo(channel)),
-        Action::Send(channel) => RingCall::Send(ChannelNo(channel)),
-        Action::Enter(node) => RingCall::Enter(NodeNo(node)),
-        Action::Move(node) => RingCall::Move(NodeNo(node)),
+        Action::Receive(channel) => RingCall::Receive(channel),
+        Action::Send(channel) => RingCall::Send(channel),
+        Action::Enter(node) => RingCall::Enter(node),
+        Action::Move(node) => RingCall::Move(node),
     }
 }
 

@@ -37,8 +37,8 @@ pub fn add_node(ring: &mut Ring, slots: u8) -> Reply
 
 // Adds a channel from one node to another, or to the same.
 pub fn add_channel(ring: &mut Ring, sender: NodeNo, receiver: NodeNo) -> Reply
-    ensures { λ r. ⌜ (now (ring .exit) ≡ ringAfter (Runs.addChannel (sender .0) (receiver .0)) (now (ring .entry)))
-        × (r ≡ replyTo (Runs.addChannel (sender .0) (receiver .0)) (now (ring .entry))) ⌝ }
+    ensures { λ r. ⌜ (now (ring .exit) ≡ ringAfter (Runs.addChannel sender receiver) (now (ring .entry)))
+        × (r ≡ replyTo (Runs.addChannel sender receiver) (now (ring .entry))) ⌝ }
 {
     let s = plan::add_channel(*ring, sender, receiver);
     *ring = s.ring;
@@ -57,8 +57,8 @@ pub fn start(ring: &mut Ring) -> Reply
 
 // Asks for a record on a resting channel.
 pub fn receive(ring: &mut Ring, channel: ChannelNo) -> Reply
-    ensures { λ r. ⌜ (now (ring .exit) ≡ ringAfter (Runs.receive (channel .0)) (now (ring .entry)))
-        × (r ≡ replyTo (Runs.receive (channel .0)) (now (ring .entry))) ⌝ }
+    ensures { λ r. ⌜ (now (ring .exit) ≡ ringAfter (Runs.receive channel) (now (ring .entry)))
+        × (r ≡ replyTo (Runs.receive channel) (now (ring .entry))) ⌝ }
 {
     let s = tasks::receive(*ring, channel);
     *ring = s.ring;
@@ -67,8 +67,8 @@ pub fn receive(ring: &mut Ring, channel: ChannelNo) -> Reply
 
 // Offers a record on a channel.
 pub fn send(ring: &mut Ring, channel: ChannelNo, record: BatchRecord) -> Reply
-    ensures { λ r. ⌜ (now (ring .exit) ≡ ringAfter (Runs.send (channel .0) «record») (now (ring .entry)))
-        × (r ≡ replyTo (Runs.send (channel .0) «record») (now (ring .entry))) ⌝ }
+    ensures { λ r. ⌜ (now (ring .exit) ≡ ringAfter (Runs.send channel «record») (now (ring .entry)))
+        × (r ≡ replyTo (Runs.send channel «record») (now (ring .entry))) ⌝ }
 {
     let s = tasks::send(*ring, channel, record);
     *ring = s.ring;
@@ -77,8 +77,8 @@ pub fn send(ring: &mut Ring, channel: ChannelNo, record: BatchRecord) -> Reply
 
 // Brings the first of a node's line into its buffer.
 pub fn enter(ring: &mut Ring, node: NodeNo) -> Reply
-    ensures { λ r. ⌜ (now (ring .exit) ≡ ringAfter (Runs.enter (node .0)) (now (ring .entry)))
-        × (r ≡ replyTo (Runs.enter (node .0)) (now (ring .entry))) ⌝ }
+    ensures { λ r. ⌜ (now (ring .exit) ≡ ringAfter (Runs.enter node) (now (ring .entry)))
+        × (r ≡ replyTo (Runs.enter node) (now (ring .entry))) ⌝ }
 {
     let s = traffic::enter(*ring, node);
     *ring = s.ring;
@@ -87,8 +87,8 @@ pub fn enter(ring: &mut Ring, node: NodeNo) -> Reply
 
 // Moves the first of a node's buffer to the next node.
 pub fn move_on(ring: &mut Ring, node: NodeNo) -> Reply
-    ensures { λ r. ⌜ (now (ring .exit) ≡ ringAfter (Runs.move (node .0)) (now (ring .entry)))
-        × (r ≡ replyTo (Runs.move (node .0)) (now (ring .entry))) ⌝ }
+    ensures { λ r. ⌜ (now (ring .exit) ≡ ringAfter (Runs.move node) (now (ring .entry)))
+        × (r ≡ replyTo (Runs.move node) (now (ring .entry))) ⌝ }
 {
     let s = traffic::move_on(*ring, node);
     *ring = s.ring;
@@ -97,14 +97,14 @@ pub fn move_on(ring: &mut Ring, node: NodeNo) -> Reply
 
 // How many hops a channel's message, and the response to it, still have to go.
 pub fn hops_left(ring: &Ring, channel: ChannelNo) -> Answer
-    ensures { λ r. ⌜ r ≡ answerTo (Runs.hopsLeft (channel .0)) (now (ring .entry)) ⌝ }
+    ensures { λ r. ⌜ r ≡ answerTo (Runs.hopsLeft channel) (now (ring .entry)) ⌝ }
 {
     questions::hops_left(*ring, channel)
 }
 
 // The channels on which a node's tasks wait, as a set of bits.
 pub fn waiting_set(ring: &Ring, node: NodeNo) -> Answer
-    ensures { λ r. ⌜ r ≡ answerTo (Runs.waitingSet (node .0)) (now (ring .entry)) ⌝ }
+    ensures { λ r. ⌜ r ≡ answerTo (Runs.waitingSet node) (now (ring .entry)) ⌝ }
 {
     questions::waiting_set(*ring, node)
 }

@@ -6,8 +6,8 @@ use native.Mathlib.Omega.{arith}
 use lib.ListN.{getD}
 use borrow.Author.Tests.{lt-ltb, le-leb, eq-eqb, eqb-true, eqb-false}
 use Rattle.network.specs.declared.Ring.{Ring}
-use Rattle.network.specs.Counting.{one, count}
-use Rattle.network.specs.Network.{Network, nodeCount, channelCount, node, channel, entryOf, targetOf, timesOn}
+use Rattle.network.specs.Counting.{one}
+use Rattle.network.specs.Network.{Network, nodeNo, channelNo, timesIn, nodeCount, channelCount, node, channel, entryOf, targetOf, timesOn}
 use Rattle.network.specs.Sound.{absent, soundAfter, soundBefore}
 use Rattle.network.specs.Layout.{ringLimits, channelRoom, phaseCode, recordAt, view, soundRing}
 use Rattle.network.proofs.Ground.Splits.{and-both}
@@ -35,30 +35,32 @@ module _ (ring : Ring) (f : Fits ring) where
   abbrev place : ℕ → ℕ
   place k = getD (f .messages .places) k 0
 
-  times-of : (k : ℕ) → timesOn σ k ≡ min 1 (place k)
+  times-of : (k : ℕ) → timesOn σ (channelNo k) ≡ min 1 (place k)
   times-of k =
       rw (node-count-of ring)
       (sum-same (nodes ring) _ _ (λ p l. rw (node-of ring p l)))
       ∙ sym (table ring f .counted k)
 
-  stands : (k : ℕ) → k < channels ring → StandsBy (channel σ k) (place k) (channel σ k .phase)
+  stands : (k : ℕ) → k < channels ring → StandsBy (channel σ (channelNo k)) (place k) (channel σ (channelNo k) .phase)
   stands k l =
       let room : k < channelRoom = omega (arith, f .counts .channels-within) in
       let h = channel-held ring f k room in
-      rw (← h .phase, ← h .sender, ← h .receiver) (f .messages .right k room)
+      rw (← h .phase, ← h .sender, ← h .receiver) (f .messages .right k l)
 
   -- a message that stands somewhere is under way between nodes
   module _ (k : ℕ) (l : k < channels ring) (some-place : 1 ≤ place k) where
-    under-way : Way (channel σ k) (place k) (channel σ k .phase)
-    under-way = stands-way (channel σ k) (place k) (channel σ k .phase) (stands k l) some-place
+    under-way : Way (channel σ (channelNo k)) (place k) (channel σ (channelNo k) .phase)
+    under-way = stands-way (channel σ (channelNo k)) (place k) (channel σ (channelNo k) .phase) (stands k l) some-place
 
-    ends : (entryOf (channel σ k) (channel σ k .phase) < nodes ring) × (targetOf (channel σ k) (channel σ k .phase) < nodes ring)
+    ends :
+        (entryOf (channel σ (channelNo k)) (channel σ (channelNo k) .phase) .0 < nodes ring)
+        × (targetOf (channel σ (channelNo k)) (channel σ (channelNo k) .phase) .0 < nodes ring)
     ends =
         let u = used-channel ring f k l in
         let e = channel-of ring k l in
-        ends-below (channel σ k) (nodes ring) (rw e (u .sender-below)) (rw e (u .receiver-below)) (channel σ k .phase)
+        ends-below (channel σ (channelNo k)) (nodes ring) (rw e (u .sender-below)) (rw e (u .receiver-below)) (channel σ (channelNo k) .phase)
 
-  buffer-fits : (p k : ℕ) → p < nodes ring → 0 < count k (node σ p .buffer) → BufferFits σ p k
+  buffer-fits : (p k : ℕ) → p < nodes ring → 0 < timesIn (node σ (nodeNo p) .buffer) (channelNo k) → BufferFits σ p k
   buffer-fits p k l in-it =
       let stands-there = rw (node-of ring p l) at in-it in
       let known : k < channels ring = queue-below (table ring f .buffers-used p l) k stands-there in
@@ -66,15 +68,16 @@ module _ (ring : Ring) (f : Fits ring) where
       let some-place : 1 ≤ place k = omega arith in
       let way = under-way k known some-place .in-buffer p (omega (arith, f .counts .nodes-within)) at in
       let to = ends k known some-place in
-      rw (channel-count-of ring, node-count-of ring, ← entry-in σ (channel σ k .phase) k, ← target-in σ (channel σ k .phase) k)
+      let g = channel σ (channelNo k) .phase in
+      rw (channel-count-of ring, node-count-of ring, ← entry-in σ g k, ← target-in σ g k)
       (known, decides-way (nodes ring) p _ _ l (to .0) (to .1) .holds way)
 
-  line-fits : (p k : ℕ) → p < nodes ring → 0 < count k (node σ p .line) → LineFits σ p k
+  line-fits : (p k : ℕ) → p < nodes ring → 0 < timesIn (node σ (nodeNo p) .line) (channelNo k) → LineFits σ p k
   line-fits p k l in-it =
       let stands-there = rw (node-of ring p l) at in-it in
       let known : k < channels ring = queue-below (table ring f .lines-used p l) k stands-there in
       let at : place k ≡ inLine + p = table ring f .in-line p k l stands-there in
-      rw (channel-count-of ring, ← entry-in σ (channel σ k .phase) k)
+      rw (channel-count-of ring, ← entry-in σ (channel σ (channelNo k) .phase) k)
       (known, under-way k known (omega arith) .in-line p at)
 
   node-facts : (p : ℕ) → p < nodes ring → NodeFacts ringLimits σ p
@@ -88,8 +91,8 @@ module _ (ring : Ring) (f : Fits ring) where
         in-buffer = λ k. buffer-fits p k l;
         in-line = λ k. line-fits p k l;
         marked = λ m.
-            let raised : one (node σ p .mark) ≡ 1 = ap one m in
-            queue-occupied (node σ p .line) (omega (arith, h .mark, h .waiting, u .marked-line));
+            let raised : one (node σ (nodeNo p) .mark) ≡ 1 = ap one m in
+            queue-occupied (node σ (nodeNo p) .line) (omega (arith, h .mark, h .waiting, u .marked-line));
       }
 
   channel-facts : (k : ℕ) → k < channels ring → ChannelFacts σ k
@@ -100,8 +103,8 @@ module _ (ring : Ring) (f : Fits ring) where
       record {
         sender-below = rw (node-count-of ring, e) (u .sender-below);
         receiver-below = rw (node-count-of ring, e) (u .receiver-below);
-        once = times-of k ∙ stands-moving (channel σ k) (place k) (channel σ k .phase) (stands k l);
-        ready-bare = λ r. none-offered (channel σ k .offer) (sym (h .offered) ∙ u .state .ready-bare (h .phase ∙ ap phaseCode r));
+        once = times-of k ∙ stands-moving (channel σ (channelNo k)) (place k) (channel σ (channelNo k) .phase) (stands k l);
+        ready-bare = λ r. none-offered (channel σ (channelNo k) .offer) (sym (h .offered) ∙ u .state .ready-bare (h .phase ∙ ap phaseCode r));
         good-offer = rw e (good-if-offered (recordAt (ring .offers) k) (getD (ring .head .offered) k 0) (f .records .offer-fits k l .good));
         good-carried =
             rw e
@@ -126,14 +129,14 @@ module _ (ring : Ring) (f : Fits ring) where
       let known : k < channels ring = rw (channel-count-of ring) at l in
       let h = channel-held ring f k (omega (arith, f .counts .channels-within)) in
       let still = used-channel ring f k known .state .before-start off in
-      and-both _ _ (code-rests (channel σ k .phase) (sym (h .phase) ∙ still .0))
-      (ap absent (none-offered (channel σ k .offer) (sym (h .offered) ∙ still .1)))))
+      and-both _ _ (code-rests (channel σ (channelNo k) .phase) (sym (h .phase) ∙ still .0))
+      (ap absent (none-offered (channel σ (channelNo k) .offer) (sym (h .offered) ∙ still .1)))))
       (below-all (nodeCount σ) _
       (λ p l.
       let known : p < nodes ring = rw (node-count-of ring) at l in
       let h = node-held ring f p (omega (arith, f .counts .nodes-within)) in
       let none-raised : one (begun ring) ≡ 0 = ap one off in
-      not-raised (node σ p .mark) (omega (arith, h .mark, used-node ring f p known .marked-started)))))
+      not-raised (node σ (nodeNo p) .mark) (omega (arith, h .mark, used-node ring f p known .marked-started)))))
       (eq-eqb (ring .head .deliveries) 0 (f .start .before-start (eqb-false _ 1 off)))
 
   at-start : cond (σ .started) (soundAfter σ) (soundBefore σ) ≡ true

@@ -40,7 +40,8 @@ decides-way n p entry target pn en tn =
 
 -- by the phase
 
-pub ends-below : (s : ChannelState) (n : ℕ) → s .sender < n → s .receiver < n → (f : Phase) → (entryOf s f < n) × (targetOf s f < n)
+pub ends-below : (s : ChannelState) (n : ℕ) → s .sender .0 < n → s .receiver .0 < n → (f : Phase) →
+    (entryOf s f .0 < n) × (targetOf s f .0 < n)
 ends-below s n sends receives resting = (receives, sends)
 ends-below s n sends receives asking = (receives, sends)
 ends-below s n sends receives ready = (sends, receives)
@@ -71,10 +72,10 @@ module _ {code sender receiver place : ℕ} where
 
 module _ (s : ChannelState) (place : ℕ) where
   abbrev pub StandsBy : Phase → Type 0
-  StandsBy f = Stands (phaseCode f) (s .sender) (s .receiver) place
+  StandsBy f = Stands (phaseCode f) (s .sender .0) (s .receiver .0) place
 
   abbrev pub Way : Phase → Type 0
-  Way f = UnderWay (entryOf s f) (targetOf s f) place
+  Way f = UnderWay (entryOf s f .0) (targetOf s f .0) place
 
   pub stands-moving : (f : Phase) → StandsBy f → min 1 place ≡ one (moving f)
   stands-moving resting h = omega (arith, h .resting refl)

@@ -3,21 +3,23 @@
 -- channels in use that stand there at most once, do not stop the pass. Assumes nothing.
 use Prim.Native.Nat.{ℕ, zero, suc, pred, _+_, _≤_, _<_, min}
 use mathlib.Core.Path.{_≡_, refl, sym, _∙_}
-use mathlib.Core.List.{List, [], _∷_, map}
+use mathlib.Core.List.{List, [], _∷_}
 use mathlib.Core.Option.{some}
 use native.Mathlib.Nat.{not-suc-le-zero}
 use native.Mathlib.Omega.{arith}
 use lib.Dec.{eqb}
 use lib.ListN.{length, getD, take, set, replicate, length-set}
 use lib.Seq.{getD-set-same, getD-set-other}
-use Rattle.network.specs.Counting.{one, sum, weigh, count}
+use Rattle.numbers.specs.declared.ChannelNo.{ChannelNo}
+use Rattle.network.specs.Counting.{one, sum, weigh}
+use Rattle.network.specs.Network.{channelNo, timesIn}
 use Rattle.network.specs.Layout.{channelRoom, rowLength, row, queueOf}
 use Rattle.network.proofs.Ground.Splits.{by-same, by-test, by-option}
 use Rattle.network.proofs.Ground.Counting.{count-same, count-other, sum-add}
 use Rattle.network.proofs.Memory.Rows.{getD-blanks}
 use Rattle.soundness.specs.RowPass.{inBuffer, inLine, fresh, mark, cellsInUse, markRow, markRows, markAll}
 use Rattle.soundness.proofs.RowPass.{Fresh, decides-fresh, mark-fresh, no-table, same-table, row-right, row-wrong, afterBuffers, all-stop, all-more}
-use Rattle.soundness.proofs.UsedCells.{Used, RowUsed}
+use Rattle.soundness.proofs.UsedCells.{channelsIn, Used, RowUsed}
 
 -- the table after the cells of one row
 
@@ -29,7 +31,7 @@ pub record Met (place : ℕ) (times : ℕ → ℕ) (seen after : List ℕ) : Typ
 -- the cells that passed
 pub record Passed (c place : ℕ) (xs seen after : List ℕ) : Type 0 where
   pub used : Used c xs
-  pub met : Met place (λ k. count k (map pred xs)) seen after
+  pub met : Met place (λ k. timesIn (channelsIn xs) (channelNo k)) seen after
   pub long : length after ≡ length seen
 
 module _ (c place : ℕ) (above : 1 ≤ place) where
@@ -47,8 +49,8 @@ module _ (c place : ℕ) (above : 1 ≤ place) where
     first-time : (k : ℕ) → pred x ≡ k → getD seen k 0 ≡ 0
     first-time k same = rw (← same) (f .first)
 
-    met-more : {after : List ℕ} → Met place (λ k. count k (map pred xs)) next after →
-        Met place (λ k. count k (map pred (x ∷ xs))) seen after
+    met-more : {after : List ℕ} → Met place (λ k. timesIn (channelsIn xs) (channelNo k)) next after →
+        Met place (λ k. timesIn (channelsIn (x ∷ xs)) (channelNo k)) seen after
     unfolding weigh
     met-more m =
         record {
@@ -90,7 +92,7 @@ module _ (c place : ℕ) (above : 1 ≤ place) where
       (λ stale. absurd (no-table (rw stale) e))
 
   pub mark-passes : (xs seen : List ℕ) → c ≤ length seen → Used c xs →
-      ((k : ℕ) → min 1 (getD seen k 0) + count k (map pred xs) ≤ 1) → (after : List ℕ) × (mark c place xs seen ≡ some after)
+      ((k : ℕ) → min 1 (getD seen k 0) + timesIn (channelsIn xs) (channelNo k) ≤ 1) → (after : List ℕ) × (mark c place xs seen ≡ some after)
   unfolding mark weigh
   mark-passes [] seen fits u once = (seen, refl)
   mark-passes (x ∷ xs) seen fits u once =
@@ -117,12 +119,12 @@ module _ (c first : ℕ) (above : 1 ≤ first) (used cells : List ℕ) where
   abbrev pub rowAt : ℕ → List ℕ
   rowAt p = row rowLength cells p
 
-  abbrev pub queueAt : ℕ → List ℕ
+  abbrev pub queueAt : ℕ → List ChannelNo
   queueAt p = queueOf (getD used p 0) (rowAt p)
 
   pub record PassedRows (n : ℕ) (seen after : List ℕ) : Type 0 where
     pub each : (p : ℕ) → p < n → RowUsed c (getD used p 0) (rowAt p)
-    pub met : MetRows first n (λ p k. count k (queueAt p)) seen after
+    pub met : MetRows first n (λ p k. timesIn (queueAt p) (channelNo k)) seen after
     pub long : length after ≡ length seen
 
   module _ (seen : List ℕ) (fits : c ≤ length seen) where
@@ -169,7 +171,7 @@ module _ (c first : ℕ) (above : 1 ≤ first) (used cells : List ℕ) where
         (λ wrong. absurd (no-table (row-wrong c (first + n) (getD used n 0) (rowAt n) before wrong) row-passed)))
 
     pub rows-pass : (n : ℕ) → ((p : ℕ) → p < n → RowUsed c (getD used p 0) (rowAt p)) →
-        ((k : ℕ) → min 1 (getD seen k 0) + sum n (λ p. count k (queueAt p)) ≤ 1) →
+        ((k : ℕ) → min 1 (getD seen k 0) + sum n (λ p. timesIn (queueAt p) (channelNo k)) ≤ 1) →
         (after : List ℕ) × (markRows n c first used cells seen ≡ some after)
     unfolding markRows sum
     rows-pass zero each once = (seen, refl)
@@ -185,21 +187,21 @@ module _ (c first : ℕ) (above : 1 ≤ first) (used cells : List ℕ) where
 -- the table after all rows
 
 module _ (n c : ℕ) (within : c ≤ channelRoom) (used waiting slots lines : List ℕ) where
-  abbrev pub bufferAt : ℕ → List ℕ
+  abbrev pub bufferAt : ℕ → List ChannelNo
   bufferAt p = queueOf (getD used p 0) (row rowLength slots p)
 
-  abbrev pub lineAt : ℕ → List ℕ
+  abbrev pub lineAt : ℕ → List ChannelNo
   lineAt p = queueOf (getD waiting p 0) (row rowLength lines p)
 
-  abbrev pub timesIn : ℕ → ℕ
-  timesIn k = sum n (λ p. count k (bufferAt p) + count k (lineAt p))
+  abbrev pub timesInRows : ℕ → ℕ
+  timesInRows k = sum n (λ p. timesIn (bufferAt p) (channelNo k) + timesIn (lineAt p) (channelNo k))
 
   pub record Places (places : List ℕ) : Type 0 where
     pub buffers-used : (p : ℕ) → p < n → RowUsed c (getD used p 0) (row rowLength slots p)
     pub lines-used : (p : ℕ) → p < n → RowUsed c (getD waiting p 0) (row rowLength lines p)
-    pub counted : (k : ℕ) → min 1 (getD places k 0) ≡ timesIn k
-    pub in-buffer : (p k : ℕ) → p < n → 0 < count k (bufferAt p) → getD places k 0 ≡ inBuffer + p
-    pub in-line : (p k : ℕ) → p < n → 0 < count k (lineAt p) → getD places k 0 ≡ inLine + p
+    pub counted : (k : ℕ) → min 1 (getD places k 0) ≡ timesInRows k
+    pub in-buffer : (p k : ℕ) → p < n → 0 < timesIn (bufferAt p) (channelNo k) → getD places k 0 ≡ inBuffer + p
+    pub in-line : (p k : ℕ) → p < n → 0 < timesIn (lineAt p) (channelNo k) → getD places k 0 ≡ inLine + p
 
   abbrev blank : List ℕ
   blank = replicate channelRoom 0
@@ -207,8 +209,8 @@ module _ (n c : ℕ) (within : c ≤ channelRoom) (used waiting slots lines : Li
   blank-zero : (k : ℕ) → getD blank k 0 ≡ 0
   blank-zero k = getD-blanks channelRoom k 0
 
-  times-split : (k : ℕ) → timesIn k ≡ sum n (λ p. count k (bufferAt p)) + sum n (λ p. count k (lineAt p))
-  times-split k = sum-add n (λ p. count k (bufferAt p)) (λ p. count k (lineAt p))
+  times-split : (k : ℕ) → timesInRows k ≡ sum n (λ p. timesIn (bufferAt p) (channelNo k)) + sum n (λ p. timesIn (lineAt p) (channelNo k))
+  times-split k = sum-add n (λ p. timesIn (bufferAt p) (channelNo k)) (λ p. timesIn (lineAt p) (channelNo k))
 
   pub all-met : (places : List ℕ) → markAll n c used waiting slots lines ≡ some places → Places places
   all-met places e =
@@ -229,7 +231,7 @@ module _ (n c : ℕ) (within : c ≤ channelRoom) (used waiting slots lines : Li
       })
 
   pub all-pass : ((p : ℕ) → p < n → RowUsed c (getD used p 0) (row rowLength slots p)) →
-      ((p : ℕ) → p < n → RowUsed c (getD waiting p 0) (row rowLength lines p)) → ((k : ℕ) → timesIn k ≤ 1) →
+      ((p : ℕ) → p < n → RowUsed c (getD waiting p 0) (row rowLength lines p)) → ((k : ℕ) → timesInRows k ≤ 1) →
       (places : List ℕ) × (markAll n c used waiting slots lines ≡ some places)
   all-pass in-buffers in-lines once =
       let buffers =

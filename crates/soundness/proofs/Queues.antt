@@ -7,7 +7,9 @@ use mathlib.Core.List.{List, [], _∷_}
 use native.Mathlib.Omega.{arith}
 use lib.ListN.{length, getD, take, length-map, List·getD-eq-default}
 use lib.Seq.{length-take-le}
-use Rattle.network.specs.Counting.{count, occupied}
+use Rattle.numbers.specs.declared.ChannelNo.{ChannelNo}
+use Rattle.network.specs.Counting.{occupied}
+use Rattle.network.specs.Network.{channelNo, timesIn}
 use Rattle.network.specs.Layout.{nodeRoom, rowLength, cellRoom, row, padded, cellsOf, queueOf}
 use Rattle.network.proofs.Ground.Splits.{by-less, both-ways}
 use Rattle.network.proofs.Memory.Rows.{row-length, getD-padded, padded-front, length-cells, length-padded}
@@ -17,9 +19,9 @@ use Rattle.soundness.proofs.RowPass.{in-use-most}
 -- a queue that is read off so many cells
 
 queue-length : (used : ℕ) (cells : List ℕ) → used ≤ length cells → length (queueOf used cells) ≡ used
-queue-length used cells l = length-map (take used cells) pred ∙ length-take-le used cells l
+queue-length used cells l = length-map (take used cells) (λ cell. channelNo (pred cell)) ∙ length-take-le used cells l
 
-pub queue-occupied : (xs : List ℕ) → 1 ≤ length xs → occupied xs ≡ true
+pub queue-occupied : (xs : List ChannelNo) → 1 ≤ length xs → occupied xs ≡ true
 queue-occupied [] l = absurd (omega arith)
 queue-occupied (x ∷ xs) l = refl
 
@@ -39,8 +41,8 @@ module _ (c : ℕ) (used cells : List ℕ) (whole : length cells ≡ cellRoom) (
   row-kept = row-laid c (getD used p 0) (row rowLength cells p) row-whole few (u .cells-used) (u .in-use)
 
 -- a queue that is laid out in a row
-pub queue-stands : (c used : ℕ) (cells q : List ℕ) → used ≡ length q → length q ≤ rowLength →
-    ((k : ℕ) → 0 < count k q → k < c) → cells ≡ padded rowLength (cellsOf q) → RowUsed c used cells
+pub queue-stands : (c used : ℕ) (cells : List ℕ) (q : List ChannelNo) → used ≡ length q → length q ≤ rowLength →
+    ((k : ℕ) → 0 < timesIn q (channelNo k) → k < c) → cells ≡ padded rowLength (cellsOf q) → RowUsed c used cells
 queue-stands c used cells q e few below laid =
     let long = length-cells q in
     let front : take used cells ≡ cellsOf q =
@@ -57,6 +59,6 @@ queue-stands c used cells q e few below laid =
       cells-used = u;
     }
 
-pub length-occupied : (xs : List ℕ) → occupied xs ≡ true → 1 ≤ length xs
+pub length-occupied : (xs : List ChannelNo) → occupied xs ≡ true → 1 ≤ length xs
 length-occupied [] e = both-ways e refl
 length-occupied (x ∷ xs) e = omega arith

@@ -9,7 +9,7 @@ use borrow.Author.Tests.{lt-ltb, le-ltb, eq-eqb, ne-eqb, not-true}
 use Rattle.wire.specs.Record.{recordLength}
 use Rattle.network.specs.declared.Ring.{Ring}
 use Rattle.network.specs.Counting.{one}
-use Rattle.network.specs.Network.{Network, nodeCount, channelCount, node, channel, noChannel}
+use Rattle.network.specs.Network.{Network, nodeNo, channelNo, nodeCount, channelCount, node, channel, noChannel}
 use Rattle.network.specs.Sound.{isResting, absent, soundAfter, soundBefore}
 use Rattle.network.specs.Layout.{nodeRoom, channelRoom, row, phaseCode, offeredFlag, view, holdHead, hold}
 use Rattle.network.proofs.Ground.Splits.{by-test, by-less, both-ways}
@@ -56,8 +56,9 @@ module _ (ring : Ring) (s : SoundRing ring) where
 
   -- what is so before the start
   record Before : Type 0 where
-    at-rest : (k : ℕ) → k < channelCount σ → (isResting (channel σ k .phase) ≡ true) × (absent (channel σ k .offer) ≡ true)
-    unmarked : (p : ℕ) → p < nodeCount σ → not (node σ p .mark) ≡ true
+    at-rest : (k : ℕ) → k < channelCount σ →
+        (isResting (channel σ (channelNo k) .phase) ≡ true) × (absent (channel σ (channelNo k) .offer) ≡ true)
+    unmarked : (p : ℕ) → p < nodeCount σ → not (node σ (nodeNo p) .mark) ≡ true
     none-delivered : σ .deliveries ≡ 0
 
   before : begun ring ≡ false → Before
@@ -88,13 +89,13 @@ module _ (ring : Ring) (s : SoundRing ring) where
         (λ here.
         let known : p < nodeCount σ = rw (node-count-of ring) here in
         let g = s .facts .each-node p known in
-        let started : one (node σ p .mark) ≤ one (begun ring) =
-        flag-below (node σ p .mark) (one (begun ring))
+        let started : one (node σ (nodeNo p) .mark) ≤ one (begun ring) =
+        flag-below (node σ (nodeNo p) .mark) (one (begun ring))
         (λ m.
         by-test (begun ring) (λ on. rw on (omega arith))
         (λ off. both-ways m (not-true _ (before off .unmarked p known)))) in
-        let waits : one (node σ p .mark) ≤ length (node σ p .line) =
-        flag-below (node σ p .mark) _ (λ m. length-occupied (node σ p .line) (g .marked m)) in
+        let waits : one (node σ (nodeNo p) .mark) ≤ length (node σ (nodeNo p) .line) =
+        flag-below (node σ (nodeNo p) .mark) _ (λ m. length-occupied (node σ (nodeNo p) .line) (g .marked m)) in
         rw (lt-ltb p (nodes ring) here)
         (record {
           some-slot = omega (arith, h .capacity, g .some-slot);
@@ -113,8 +114,8 @@ module _ (ring : Ring) (s : SoundRing ring) where
         (getD (ring .head .phases) k 0) (getD (ring .head .offered) k 0)
     channel-fits =
         let h = s .holds .channels k l in
-        let g = channel σ k .phase in
-        let o = channel σ k .offer in
+        let g = channel σ (channelNo k) .phase in
+        let o = channel σ (channelNo k) .offer in
         by-less k (channels ring)
         (λ here.
         let known : k < channelCount σ = rw (channel-count-of ring) here in
@@ -141,17 +142,17 @@ module _ (ring : Ring) (s : SoundRing ring) where
       let held-at : (k : ℕ) → k < channels ring → HeldChannel ring σ k =
       λ k l. s .holds .channels k (omega (arith, counts-fit .channels-within)) in
       let known : (k : ℕ) → k < channels ring → k < channelCount σ = λ k l. rw (channel-count-of ring) l in
-      let past-all : (k : ℕ) → channels ring ≤ k → channel σ k ≡ noChannel = λ k l. no-channel σ k (rw (channel-count-of ring) l) in
+      let past-all : (k : ℕ) → channels ring ≤ k → channel σ (channelNo k) ≡ noChannel = λ k l. no-channel σ k (rw (channel-count-of ring) l) in
       record {
         offers-whole = s .holds .offers-whole;
         carried-whole = s .holds .carried-whole;
         offer-fits = λ k l.
             rw (held-at k l .offered)
-            (offer-stands (row recordLength (ring .offers) k) (channel σ k .offer) (held-at k l .offer-row)
+            (offer-stands (row recordLength (ring .offers) k) (channel σ (channelNo k) .offer) (held-at k l .offer-row)
             (s .fits .offer-fits k (known k l)) (s .facts .each-channel k (known k l) .good-offer));
         carried-fits = λ k l.
             rw (held-at k l .phase)
-            (carried-stands (row recordLength (ring .carried) k) (channel σ k .phase) (held-at k l .carried-row)
+            (carried-stands (row recordLength (ring .carried) k) (channel σ (channelNo k) .phase) (held-at k l .carried-row)
             (s .fits .carried-fits k (known k l)) (s .facts .each-channel k (known k l) .good-carried));
         offers-beyond =
             rows-beyond recordLength channelRoom (channels ring) (omega arith) (ring .offers) (s .holds .offers-whole)

@@ -7,7 +7,9 @@ use native.Mathlib.Nat.{not-suc-le-zero}
 use native.Mathlib.Omega.{arith}
 use lib.ListN.{length, getD, take, List·getD-eq-default}
 use lib.Seq.{getD-take, length-take-le}
-use Rattle.network.specs.Counting.{sum, weigh, count}
+use Rattle.numbers.specs.declared.ChannelNo.{ChannelNo}
+use Rattle.network.specs.Counting.{sum, weigh}
+use Rattle.network.specs.Network.{channelNo, timesIn}
 use Rattle.network.specs.Layout.{rowLength, padded, cellsOf, queueOf}
 use Rattle.network.proofs.Ground.Splits.{by-same, by-less}
 use Rattle.network.proofs.Ground.Counting.{count-same, count-other, sum-same, sum-ones, sum-beyond}
@@ -20,23 +22,26 @@ abbrev pub Used : ℕ → List ℕ → Type 0
 Used c [] = Unit {0}
 Used c (x ∷ xs) = (0 < x) × (x ≤ c) × Used c xs
 
--- read as a queue, and laid out again
-pub used-back : (c : ℕ) (xs : List ℕ) → Used c xs → cellsOf (map pred xs) ≡ xs
+-- read as channels, and laid out again
+abbrev pub channelsIn : List ℕ → List ChannelNo
+channelsIn cells = map (λ cell. channelNo (pred cell)) cells
+
+pub used-back : (c : ℕ) (xs : List ℕ) → Used c xs → cellsOf (channelsIn xs) ≡ xs
 used-back c [] u = refl
 used-back c (x ∷ xs) u = let same : suc (pred x) ≡ x = omega (arith, u .0) in rw (same, used-back c xs (u .2))
 
-used-below : (c : ℕ) (xs : List ℕ) → Used c xs → (k : ℕ) → 0 < count k (map pred xs) → k < c
+used-below : (c : ℕ) (xs : List ℕ) → Used c xs → (k : ℕ) → 0 < timesIn (channelsIn xs) (channelNo k) → k < c
 unfolding weigh
 used-below c [] u k l = absurd (not-suc-le-zero l)
 used-below c (x ∷ xs) u k l =
     by-same (pred x) k (λ same. omega (arith, u .0, u .1))
     (λ other. used-below c xs (u .2) k (omega (arith, count-other (pred x) k other)))
 
-pub below-used : (c : ℕ) (ks : List ℕ) → ((k : ℕ) → 0 < count k ks → k < c) → Used c (cellsOf ks)
+pub below-used : (c : ℕ) (ks : List ChannelNo) → ((k : ℕ) → 0 < timesIn ks (channelNo k) → k < c) → Used c (cellsOf ks)
 unfolding weigh
 below-used c [] below = tt
 below-used c (k ∷ ks) below =
-    (omega arith, below k (omega (arith, count-same k)), below-used c ks (λ j l. below j (omega arith)))
+    (omega arith, below (k .0) (omega (arith, count-same (k .0))), below-used c ks (λ j l. below j (omega arith)))
 
 used-one : (c : ℕ) (xs : List ℕ) → Used c xs → (i : ℕ) → i < length xs → min 1 (getD xs i 0) ≡ 1
 used-one c [] u i l = absurd (not-suc-le-zero l)
@@ -93,5 +98,5 @@ pub record RowUsed (c used : ℕ) (cells : List ℕ) : Type 0 where
   pub in-use : cellsInUse cells ≡ used
   pub cells-used : Used c (take used cells)
 
-pub queue-below : {c used : ℕ} {cells : List ℕ} → RowUsed c used cells → (k : ℕ) → 0 < count k (queueOf used cells) → k < c
+pub queue-below : {c used : ℕ} {cells : List ℕ} → RowUsed c used cells → (k : ℕ) → 0 < timesIn (queueOf used cells) (channelNo k) → k < c
 queue-below {c} {used} {cells} u k l = used-below c (take used cells) (u .cells-used) k l

@@ -9,7 +9,7 @@ use Rattle.wire.specs.Record.{recordLength}
 use Rattle.network.specs.declared.Ring.{Ring}
 use Rattle.network.specs.declared.Head.{Head}
 use Rattle.network.specs.Counting.{sum}
-use Rattle.network.specs.Network.{Network, nodeCount, channelCount, slotCount, noNode, noChannel, node, channel}
+use Rattle.network.specs.Network.{Network, nodeNo, channelNo, nodeCount, channelCount, slotCount, noNode, noChannel, node, channel}
 use Rattle.network.specs.Sound.{lastCount}
 use Rattle.network.specs.Layout.{nodeRoom, channelRoom, rowLength, viewNode, viewChannel, view, holdHead, hold}
 use Rattle.network.proofs.Memory.Rows.{length-tabulate, getD-tabulate, tabulate-is, rows-is}
@@ -47,11 +47,11 @@ module _ (ring : Ring) where
   unfolding view
   channel-count-of = length-tabulate (ring .head .«channel_count») (viewChannel ring)
 
-  pub node-of : (p : ℕ) → p < ring .head .«node_count» → node (view ring) p ≡ viewNode ring p
+  pub node-of : (p : ℕ) → p < ring .head .«node_count» → node (view ring) (nodeNo p) ≡ viewNode ring p
   unfolding view
   node-of p l = getD-tabulate (ring .head .«node_count») (viewNode ring) p noNode l
 
-  pub channel-of : (k : ℕ) → k < ring .head .«channel_count» → channel (view ring) k ≡ viewChannel ring k
+  pub channel-of : (k : ℕ) → k < ring .head .«channel_count» → channel (view ring) (channelNo k) ≡ viewChannel ring k
   unfolding view
   channel-of k l = getD-tabulate (ring .head .«channel_count») (viewChannel ring) k noChannel l
 
@@ -92,5 +92,5 @@ module _ (ring : Ring) (whole : Whole (ring .head)) (spare : ring .head .spare �
 pub slots-of : (ring : Ring) (σ : Network) → Held ring σ → nodeCount σ ≤ nodeRoom →
     sum nodeRoom (λ p. getD (ring .head .capacity) p 0) ≡ slotCount σ
 slots-of ring σ h few =
-    sum-same nodeRoom (λ p. getD (ring .head .capacity) p 0) (λ p. node σ p .slots) (λ p l. h .nodes p l .capacity)
-    ∙ sum-beyond nodeRoom (nodeCount σ) (λ p. node σ p .slots) few (λ p l m. rw (no-node σ p l))
+    sum-same nodeRoom (λ p. getD (ring .head .capacity) p 0) (λ p. node σ (nodeNo p) .slots) (λ p l. h .nodes p l .capacity)
+    ∙ sum-beyond nodeRoom (nodeCount σ) (λ p. node σ (nodeNo p) .slots) few (λ p l m. rw (no-node σ p l))

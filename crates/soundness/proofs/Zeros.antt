@@ -2,10 +2,11 @@
 use Prim.Native.Nat.{ℕ, _+_, _*_, _-_, _/_, _%_, _≤_, _<_}
 use mathlib.Core.Path.{_≡_, sym, ap, _∙_}
 use mathlib.Core.List.{List, []}
+use mathlib.Core.Logic.{_↔_}
 use native.Mathlib.Nat.{mul-le-mul-left, div-add-mod, mod-lt}
 use native.Mathlib.Omega.{arith}
-use lib.ListN.{length, getD, take, drop, List·getD-eq-default}
-use lib.Seq.{getD-drop}
+use lib.ListN.{length, getD, take, drop, length-take, List·getD-eq-default}
+use lib.Seq.{getD-take, getD-drop}
 use Rattle.network.specs.Layout.{row, padded}
 use Rattle.network.proofs.Ground.Splits.{by-less}
 use Rattle.network.proofs.Memory.Rows.{padded-is, padded-none, getD-blanks, row-end, row-length, getD-row}
@@ -25,6 +26,37 @@ blank-padded n xs e blank = sym (padded-is n [] xs e (λ i l. sym (blank i)))
 
 pub padded-blank : (n : ℕ) {xs : List ℕ} → xs ≡ padded n [] → Blank xs
 padded-blank n e i = ap (λ ys. getD ys i 0) (e ∙ padded-none n) ∙ getD-blanks n i 0
+
+part-blank : (n : ℕ) (xs : List ℕ) → Blank xs → Blank (take n xs)
+part-blank n xs blank i =
+    by-less i n (λ l. getD-take n xs i 0 l ∙ blank i) (λ past. List·getD-eq-default (take n xs) 0 (omega (arith, length-take n xs)))
+
+-- the cells from s on are zero exactly when those of two parts are that leave none out, from s to m and from b to the end
+module _ (cells : List ℕ) (s b m e : ℕ) (whole : length cells ≡ e) (after : s ≤ b) (no-gap : b ≤ m) where
+  halves-blank : Blank (take (m - s) (drop s cells)) × Blank (take (e - b) (drop b cells)) → Blank (drop s cells)
+  halves-blank blank i =
+      by-less i (m - s) (λ l. sym (getD-take (m - s) (drop s cells) i 0 l) ∙ blank .0 i) λ past.
+      getD-drop s cells i 0
+      ∙ by-less (s + i) e
+      (λ inside.
+      let at : b + (s + i - b) ≡ s + i = omega arith in
+      ap (λ k. getD cells k 0) (sym at)
+      ∙ sym (getD-drop b cells (s + i - b) 0)
+      ∙ sym (getD-take (e - b) (drop b cells) (s + i - b) 0 (omega arith))
+      ∙ blank .1 (s + i - b))
+      (λ beyond. List·getD-eq-default cells 0 (rw whole beyond))
+
+  blank-halves : Blank (drop s cells) → Blank (take (m - s) (drop s cells)) × Blank (take (e - b) (drop b cells))
+  blank-halves blank = (
+    part-blank (m - s) (drop s cells) blank,
+    part-blank (e - b) (drop b cells)
+        (λ i.
+        let at : s + (b - s + i) ≡ b + i = omega arith in
+        getD-drop b cells i 0 ∙ ap (λ k. getD cells k 0) (sym at) ∙ sym (getD-drop s cells (b - s + i) 0) ∙ blank (b - s + i)),
+  )
+
+  pub halves : (Blank (take (m - s) (drop s cells)) × Blank (take (e - b) (drop b cells))) ↔ Blank (drop s cells)
+  halves = (halves-blank, blank-halves)
 
 -- rows of w cells, m of them, and zeros from row n on
 

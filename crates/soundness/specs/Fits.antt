@@ -99,7 +99,7 @@ pub record MessagesFit (n c : ℕ) (used waiting phases senders receivers slots 
   pub lines-beyond : Blank (drop (rowLength * n) lines)
   pub places : List ℕ
   pub marked : markAll n c used waiting slots lines ≡ some places
-  pub right : (k : ℕ) → k < channelRoom → Stands (getD phases k 0) (getD senders k 0) (getD receivers k 0) (getD places k 0)
+  pub right : (k : ℕ) → k < c → Stands (getD phases k 0) (getD senders k 0) (getD receivers k 0) (getD places k 0)
 
 -- started: n and c at least 1, b greater than c; not started: no deliveries, and the rest is said of each channel and node
 pub record StartFits (started n c deliveries : ℕ) (capacity : List ℕ) : Type 0 where

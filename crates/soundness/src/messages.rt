@@ -56,19 +56,21 @@ fn stands_right(phase: u8, sender: u8, receiver: u8, place: u8) -> bool
     on_the_way(place - IN_BUFFER, entry, target)
 }
 
-// Every message stands where it may.
+// Every message stands where it may, for the channels in use.
 fn all_right(
+    count: usize,
     phases: &ByChannel,
     senders: &ByChannel,
     receivers: &ByChannel,
     places: &ByChannel,
 ) -> bool
-    ensures { λ r. ⌜ Decides r ((k : ℕ) → k < channelRoom → Stands (getD (now (phases .entry)) k 0) (getD (now (senders .entry)) k 0)
+    requires { ⌜ count ≤ channelRoom ⌝ }
+    ensures { λ r. ⌜ Decides r ((k : ℕ) → k < count → Stands (getD (now (phases .entry)) k 0) (getD (now (senders .entry)) k 0)
         (getD (now (receivers .entry)) k 0) (getD (now (places .entry)) k 0)) ⌝ }
 {
     let mut wrong: u8 = 0;
     let mut k = 0;
-    while k < CHANNELS {
+    while k < count {
         if !stands_right(phases[k], senders[k], receivers[k], places[k]) {
             wrong += 1;
         }
@@ -117,5 +119,5 @@ pub fn messages_fit(
     ) {
         return false;
     }
-    all_right(phases, senders, receivers, &places)
+    all_right(channel_count as usize, phases, senders, receivers, &places)
 }

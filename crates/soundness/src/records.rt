@@ -10,10 +10,33 @@ ghost use mathlib.Core.Path.{_≡_};
 ghost use Prim.Native.Nat.{ℕ, _*_, _<_, _≤_};
 ghost use lib.Dec.{eqb};
 ghost use lib.ListN.{length, getD};
+ghost use Rattle.batch.specs.Good.{every, isZero};
 ghost use Rattle.wire.specs.Record.{recordLength};
 ghost use Rattle.network.specs.Layout.{channelRoom, recordRoom, row};
 ghost use Rattle.soundness.specs.Decides.{Decides};
 ghost use Rattle.soundness.specs.Fits.{BytesFit, RecordsFit};
+
+// The bytes of a record, taken eight at a time.
+const WORD: usize = 8;
+
+const WORDS: usize = RECORD_LENGTH / WORD;
+
+// Whether all bytes of a record are zero, eight at a time: the compiler makes one comparison of the eight.
+fn record_blank(bytes: &[u8]) -> bool
+    requires { ⌜ length (now bytes) ≡ recordLength ⌝ }
+    ensures { λ r. ⌜ r ≡ every isZero (now (bytes .entry)) ⌝ }
+{
+    let mut word = 0;
+    while word < WORDS {
+        let from = WORD * word;
+        let to = from + WORD;
+        if !batch::all_zero(&bytes[from..to]) {
+            return false;
+        }
+        word += 1;
+    }
+    true
+}
 
 // A record that is there is good, and where there is none the bytes are zero.
 fn record_fits(there: bool, bytes: &[u8]) -> bool
@@ -23,11 +46,7 @@ fn record_fits(there: bool, bytes: &[u8]) -> bool
     if there {
         return wire::record_good(bytes);
     }
-    // In two parts, since the compiler tests the eight bytes before the name at once.
-    if !batch::all_zero(&bytes[..8]) {
-        return false;
-    }
-    batch::all_zero(&bytes[8..])
+    record_blank(bytes)
 }
 
 // The records of the first `count` channels: one stands where the channel's state is `with`.

@@ -6,6 +6,7 @@ use mathlib.Core.List.{List, [], _∷_, _++_}
 use lib.IntN.{pos}
 use lib.ListN.{replicate}
 use Rattle.batch.specs.declared.BatchRecord.{BatchRecord}
+use Rattle.numbers.specs.Numbers.{channelNo}
 use Rattle.tape.specs.declared.Action.the-variants.{Send}
 use Rattle.tape.specs.declared.Command.{Command}
 use Rattle.tape.specs.Table.{bytesOf}
@@ -18,7 +19,7 @@ sentRecord =
     record { batch = record { 0 = 7 }; vessel = 3; temperature = pos 612; «name_length» = 2; name = 0x41 ∷ 0x31 ∷ replicate 30 0 }
 
 abbrev pub sent : Command
-sent = record { action = Send 0; «record» = sentRecord }
+sent = record { action = Send (channelNo 0); «record» = sentRecord }
 
 abbrev pub sentBytes : List ℕ
 sentBytes =

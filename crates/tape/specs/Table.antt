@@ -11,6 +11,7 @@ use lib.Dec.{eqb}
 use lib.ListN.{drop}
 use Rattle.batch.specs.declared.BatchRecord.{BatchRecord}
 use Rattle.batch.specs.Blank.{noRecord}
+use Rattle.numbers.specs.Numbers.{nodeNo, channelNo}
 use Rattle.tape.specs.declared.Action.{Action}
 use Rattle.tape.specs.declared.Action.the-variants.{AddNode, AddChannel, Start, Receive, Send, Enter, Move}
 use Rattle.tape.specs.declared.Command.{Command}
@@ -34,12 +35,12 @@ row code shape action = record { code = code; shape = shape; action = action }
 unfoldable pub commands : List Row
 commands =
     row 0x10 Byte (λ slots b. AddNode slots)
-    ∷ row 0x11 TwoBytes (λ sender receiver. AddChannel sender receiver)
+    ∷ row 0x11 TwoBytes (λ sender receiver. AddChannel (nodeNo sender) (nodeNo receiver))
     ∷ row 0x12 Bare (λ a b. Start)
-    ∷ row 0x20 Byte (λ channel b. Receive channel)
-    ∷ row 0x21 ByteAndRecord (λ channel b. Send channel)
-    ∷ row 0x22 Byte (λ node b. Enter node)
-    ∷ row 0x23 Byte (λ node b. Move node)
+    ∷ row 0x20 Byte (λ channel b. Receive (channelNo channel))
+    ∷ row 0x21 ByteAndRecord (λ channel b. Send (channelNo channel))
+    ∷ row 0x22 Byte (λ node b. Enter (nodeNo node))
+    ∷ row 0x23 Byte (λ node b. Move (nodeNo node))
     ∷ []
 
 -- the command byte and the operands of one byte of an action, 0 where it has none
@@ -48,12 +49,12 @@ parts code first second = record { code = code; first = first; second = second }
 
 abbrev pub partsOf : Action → Parts
 partsOf (AddNode slots) = parts 0x10 slots 0
-partsOf (AddChannel sender receiver) = parts 0x11 sender receiver
+partsOf (AddChannel sender receiver) = parts 0x11 (sender .0) (receiver .0)
 partsOf Start = parts 0x12 0 0
-partsOf (Receive channel) = parts 0x20 channel 0
-partsOf (Send channel) = parts 0x21 channel 0
-partsOf (Enter node) = parts 0x22 node 0
-partsOf (Move node) = parts 0x23 node 0
+partsOf (Receive channel) = parts 0x20 (channel .0) 0
+partsOf (Send channel) = parts 0x21 (channel .0) 0
+partsOf (Enter node) = parts 0x22 (node .0) 0
+partsOf (Move node) = parts 0x23 (node .0) 0
 
 -- the row of a byte that no command has, and the row of a command byte
 abbrev pub noRow : ℕ → Row

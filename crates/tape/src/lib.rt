@@ -2,6 +2,8 @@
 // command byte first, then its operands, low byte first. Both answer what the definitions in specs/ say of every place,
 // every byte and every operand value; what was written reads back, and what was read writes back.
 use batch::BatchRecord;
+use numbers::ChannelNo;
+use numbers::NodeNo;
 use refusal::Refusal;
 use wire::fields;
 ghost use mathlib.Core.Path.{_≡_};
@@ -16,15 +18,15 @@ ghost use Rattle.tape.specs.Table.{rowOf, rowWith, partsOf};
 ghost use Rattle.tape.specs.Tape.{readAt, writeAt, afterWrite, withNone, readNumber, writeNumber};
 ghost use Rattle.tape.specs.RoundTrip.{ReadsBack, WritesBack};
 
-// What a command does, with its operands of one byte: slots, sender and receiver, channel or node.
+// What a command does, with its operands of one byte, each of any value: slots, sender and receiver, channel or node.
 pub enum Action {
     AddNode(u8),
-    AddChannel(u8, u8),
+    AddChannel(NodeNo, NodeNo),
     Start,
-    Receive(u8),
-    Send(u8),
-    Enter(u8),
-    Move(u8),
+    Receive(ChannelNo),
+    Send(ChannelNo),
+    Enter(NodeNo),
+    Move(NodeNo),
 }
 
 // A command of the tape. Only a send has a record; beside every other action stands the blank one. (The record has a name
@@ -82,12 +84,15 @@ pub fn row_of(code: u8, first: u8, second: u8) -> Row
 {
     match code {
         0x10 => with_shape(Shape::Byte, Action::AddNode(first)),
-        0x11 => with_shape(Shape::TwoBytes, Action::AddChannel(first, second)),
+        0x11 => with_shape(
+            Shape::TwoBytes,
+            Action::AddChannel(NodeNo(first), NodeNo(second)),
+        ),
         0x12 => with_shape(Shape::Bare, Action::Start),
-        0x20 => with_shape(Shape::Byte, Action::Receive(first)),
-        0x21 => with_shape(Shape::ByteAndRecord, Action::Send(first)),
-        0x22 => with_shape(Shape::Byte, Action::Enter(first)),
-        0x23 => with_shape(Shape::Byte, Action::Move(first)),
+        0x20 => with_shape(Shape::Byte, Action::Receive(ChannelNo(first))),
+        0x21 => with_shape(Shape::ByteAndRecord, Action::Send(ChannelNo(first))),
+        0x22 => with_shape(Shape::Byte, Action::Enter(NodeNo(first))),
+        0x23 => with_shape(Shape::Byte, Action::Move(NodeNo(first))),
         _ => no_row(),
     }
 }
@@ -111,12 +116,12 @@ pub fn parts_of(action: Action) -> Parts
 {
     match action {
         Action::AddNode(slots) => with_operands(0x10, slots, 0),
-        Action::AddChannel(sender, receiver) => with_operands(0x11, sender, receiver),
+        Action::AddChannel(sender, receiver) => with_operands(0x11, sender.0, receiver.0),
         Action::Start => with_operands(0x12, 0, 0),
-        Action::Receive(channel) => with_operands(0x20, channel, 0),
-        Action::Send(channel) => with_operands(0x21, channel, 0),
-        Action::Enter(node) => with_operands(0x22, node, 0),
-        Action::Move(node) => with_operands(0x23, node, 0),
+        Action::Receive(channel) => with_operands(0x20, channel.0, 0),
+        Action::Send(channel) => with_operands(0x21, channel.0, 0),
+        Action::Enter(node) => with_operands(0x22, node.0, 0),
+        Action::Move(node) => with_operands(0x23, node.0, 0),
     }
 }
 

@@ -32,7 +32,7 @@ pub fn receive(
 ) -> HeadStep
     ensures { λ r. ⌜ stepIn r (now (slots .entry)) (now (lines .exit)) (now (offers .entry)) (now (carried .entry))
         ≡ stepOf (ringIn head (now (slots .entry)) (now (lines .entry)) (now (offers .entry)) (now (carried .entry)))
-        (callRing (Runs.receive (channel .0))
+        (callRing (Runs.receive channel)
         (ringIn head (now (slots .entry)) (now (lines .entry)) (now (offers .entry)) (now (carried .entry)))) ⌝ }
 {
     let subject = Subject::Channel(channel);
@@ -62,7 +62,7 @@ pub fn send(
 ) -> HeadStep
     ensures { λ r. ⌜ stepIn r (now (slots .entry)) (now (lines .exit)) (now (offers .exit)) (now (carried .exit))
         ≡ stepOf (ringIn head (now (slots .entry)) (now (lines .entry)) (now (offers .entry)) (now (carried .entry)))
-        (callRing (Runs.send (channel .0) «record»)
+        (callRing (Runs.send channel «record»)
         (ringIn head (now (slots .entry)) (now (lines .entry)) (now (offers .entry)) (now (carried .entry)))) ⌝ }
 {
     let subject = Subject::Channel(channel);

@@ -16,7 +16,7 @@ ghost use Rattle.network.specs.Runs;
 
 // A resting channel becomes asking, and its request joins the receiver node's line.
 pub fn receive(ring: Ring, channel: ChannelNo) -> Step
-    ensures { λ r. ⌜ r ≡ stepOf ring (callRing (Runs.receive (channel .0)) ring) ⌝ }
+    ensures { λ r. ⌜ r ≡ stepOf ring (callRing (Runs.receive channel) ring) ⌝ }
 {
     let head = ring.head;
     let slots = ring.slots;
@@ -29,7 +29,7 @@ pub fn receive(ring: Ring, channel: ChannelNo) -> Step
 
 // The record is offered. If the channel is ready, it becomes answering and the record goes out at once as the response.
 pub fn send(ring: Ring, channel: ChannelNo, record: BatchRecord) -> Step
-    ensures { λ r. ⌜ r ≡ stepOf ring (callRing (Runs.send (channel .0) «record») ring) ⌝ }
+    ensures { λ r. ⌜ r ≡ stepOf ring (callRing (Runs.send channel «record») ring) ⌝ }
 {
     let head = ring.head;
     let slots = ring.slots;

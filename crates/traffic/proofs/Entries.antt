@@ -8,7 +8,7 @@ use lib.ListN.{length}
 use borrow.Author.Tests.{lt-ltb, le-ltb}
 use Rattle.refusal.specs.declared.Refusal.the-variants.{LineEmpty, NoFreeSlot}
 use Rattle.network.specs.declared.Ring.{Ring}
-use Rattle.network.specs.Network.{Network, node}
+use Rattle.network.specs.Network.{Network, nodeNo, node}
 use Rattle.network.specs.Calls.{done, refused, accepted, enterFirst}
 use Rattle.network.specs.Calls
 use Rattle.network.specs.Runs
@@ -24,33 +24,34 @@ module _ {ring : Ring} {p : ℕ} (h : AtNode ring p) where
   abbrev σ : Network
   σ = view ring
 
-  called : callRing (Runs.enter p) ring ≡ heldOutcome (enterFirst p (node σ p .line) σ)
+  called : callRing (Runs.enter (nodeNo p)) ring ≡ heldOutcome (enterFirst (nodeNo p) (node σ (nodeNo p) .line) σ)
   unfolding Calls.enter
-  called = rw (sound-called (Runs.enter p) ring (h .ok), node-running h, lt-ltb _ _ (node-there h))
+  called = rw (sound-called (Runs.enter (nodeNo p)) ring (h .ok), node-running h, lt-ltb _ _ (node-there h))
 
-  pub enter-empty : waitingAt (ring .head) p ≡ 0 → callRing (Runs.enter p) ring ≡ refused LineEmpty
-  enter-empty e = called ∙ rw (empty-length (node σ p .line) (sym (node-numbers h .waiting) ∙ e))
+  pub enter-empty : waitingAt (ring .head) p ≡ 0 → callRing (Runs.enter (nodeNo p)) ring ≡ refused LineEmpty
+  enter-empty e = called ∙ rw (empty-length (node σ (nodeNo p) .line) (sym (node-numbers h .waiting) ∙ e))
 
   -- what the code asks before it reads and writes rows
   pub row-within : rowLength * p < cellRoom
   row-within = omega (arith, node-within h)
 
   module _ (some : waitingAt (ring .head) p ≢ 0) where
-    pub enter-full : capacityAt (ring .head) p ≤ usedAt (ring .head) p → callRing (Runs.enter p) ring ≡ refused NoFreeSlot
+    pub enter-full : capacityAt (ring .head) p ≤ usedAt (ring .head) p → callRing (Runs.enter (nodeNo p)) ring ≡ refused NoFreeSlot
     enter-full full =
-        by-list (node σ p .line) (λ e. absurd (some (node-numbers h .waiting ∙ ap length e))) λ k ks e.
+        by-list (node σ (nodeNo p) .line) (λ e. absurd (some (node-numbers h .waiting ∙ ap length e))) λ k ks e.
         called ∙ rw (e, le-ltb _ _ (rw (node-numbers h .capacity, node-numbers h .used) at full))
 
     module _ (free : usedAt (ring .head) p < capacityAt (ring .head) p) where
       pub enter-room : usedAt (ring .head) p < rowLength
       enter-room = omega (arith, slots-within h)
 
-      pub enter-done : callRing (Runs.enter p) ring ≡ accepted done (entered ring p)
+      pub enter-done : callRing (Runs.enter (nodeNo p)) ring ≡ accepted done (entered ring p)
       enter-done =
           let s = node-known h in
-          let slot : length (node σ p .buffer) < node σ p .slots = rw (node-numbers h .capacity, node-numbers h .used) at free in
-          let room : length (node σ p .buffer) < rowLength = rw (node-numbers h .used) at enter-room in
-          by-list (node σ p .line) (λ e. absurd (some (node-numbers h .waiting ∙ ap length e))) λ k ks e.
+          let slot : length (node σ (nodeNo p) .buffer) < node σ (nodeNo p) .slots =
+          rw (node-numbers h .capacity, node-numbers h .used) at free in
+          let room : length (node σ (nodeNo p) .buffer) < rowLength = rw (node-numbers h .used) at enter-room in
+          by-list (node σ (nodeNo p) .line) (λ e. absurd (some (node-numbers h .waiting ∙ ap length e))) λ k ks e.
           called
           ∙ rw (e, lt-ltb _ _ slot)
           (ap (accepted done)

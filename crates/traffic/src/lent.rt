@@ -21,6 +21,7 @@ ghost use Prim.Native.Nat.{_<_, _+_};
 ghost use Rattle.hops.specs.Hops.{next};
 ghost use Rattle.network.specs.Answers.{stepOf};
 ghost use Rattle.network.specs.Layout.{callRing, ringIn, stepIn};
+ghost use Rattle.network.specs.Network.{nodeNo};
 ghost use Rattle.network.specs.Runs;
 ghost use Rattle.updates.specs.Flat.{markAfter, targetBy};
 ghost use Rattle.updates.specs.Known.{AtNode, Takes, Delivers, Passes};
@@ -36,7 +37,7 @@ pub fn enter(
 ) -> HeadStep
     ensures { λ r. ⌜ stepIn r (now (slots .exit)) (now (lines .exit)) (now (offers .entry)) (now (carried .entry))
         ≡ stepOf (ringIn head (now (slots .entry)) (now (lines .entry)) (now (offers .entry)) (now (carried .entry)))
-        (callRing (Runs.enter (node .0))
+        (callRing (Runs.enter node)
         (ringIn head (now (slots .entry)) (now (lines .entry)) (now (offers .entry)) (now (carried .entry)))) ⌝ }
 {
     let subject = Subject::Node(node);
@@ -59,7 +60,7 @@ pub fn enter_at(
     requires { ⌜ AtNode (ringIn head (now slots) (now lines) (now offers) (now carried)) (node .0) ⌝ }
     ensures { λ r. ⌜ stepIn r (now (slots .exit)) (now (lines .exit)) (now (offers .entry)) (now (carried .entry))
         ≡ stepOf (ringIn head (now (slots .entry)) (now (lines .entry)) (now (offers .entry)) (now (carried .entry)))
-        (callRing (Runs.enter (node .0))
+        (callRing (Runs.enter node)
         (ringIn head (now (slots .entry)) (now (lines .entry)) (now (offers .entry)) (now (carried .entry)))) ⌝ }
 {
     let p = node.0 as usize;
@@ -92,7 +93,7 @@ pub fn move_on(
 ) -> HeadStep
     ensures { λ r. ⌜ stepIn r (now (slots .exit)) (now (lines .exit)) (now (offers .exit)) (now (carried .exit))
         ≡ stepOf (ringIn head (now (slots .entry)) (now (lines .entry)) (now (offers .entry)) (now (carried .entry)))
-        (callRing (Runs.move (node .0))
+        (callRing (Runs.move node)
         (ringIn head (now (slots .entry)) (now (lines .entry)) (now (offers .entry)) (now (carried .entry)))) ⌝ }
 {
     let subject = Subject::Node(node);
@@ -115,7 +116,7 @@ pub fn move_at(
     requires { ⌜ AtNode (ringIn head (now slots) (now lines) (now offers) (now carried)) (node .0) ⌝ }
     ensures { λ r. ⌜ stepIn r (now (slots .exit)) (now (lines .exit)) (now (offers .exit)) (now (carried .exit))
         ≡ stepOf (ringIn head (now (slots .entry)) (now (lines .entry)) (now (offers .entry)) (now (carried .entry)))
-        (callRing (Runs.move (node .0))
+        (callRing (Runs.move node)
         (ringIn head (now (slots .entry)) (now (lines .entry)) (now (offers .entry)) (now (carried .entry)))) ⌝ }
 {
     let here = node.0;
@@ -174,7 +175,7 @@ fn take(
     requires { ⌜ Takes (ringIn head (now slots) (now lines) (now offers) (now carried)) p cell ⌝ }
     ensures { λ r. ⌜ stepIn r (now (slots .exit)) (now (lines .exit)) (now (offers .exit)) (now (carried .exit))
         ≡ stepOf (ringIn head (now (slots .entry)) (now (lines .entry)) (now (offers .entry)) (now (carried .entry)))
-        (callRing (Runs.move p)
+        (callRing (Runs.move (nodeNo p))
         (ringIn head (now (slots .entry)) (now (lines .entry)) (now (offers .entry)) (now (carried .entry)))) ⌝ }
 {
     let channel = cell - 1;
@@ -204,7 +205,7 @@ fn deliver(
     requires { ⌜ Delivers (ringIn head (now slots) (now lines) (now offers) (now carried)) p cell ⌝ }
     ensures { λ r. ⌜ stepIn r (now (slots .exit)) (now (lines .entry)) (now (offers .entry)) (now (carried .exit))
         ≡ stepOf (ringIn head (now (slots .entry)) (now (lines .entry)) (now (offers .entry)) (now (carried .entry)))
-        (callRing (Runs.move p)
+        (callRing (Runs.move (nodeNo p))
         (ringIn head (now (slots .entry)) (now (lines .entry)) (now (offers .entry)) (now (carried .entry)))) ⌝ }
 {
     let channel = cell - 1;
@@ -235,7 +236,7 @@ fn pass(
     requires { ⌜ Passes (ringIn head (now slots) (now lines) (now offers) (now carried)) p next cell ⌝ }
     ensures { λ r. ⌜ stepIn r (now (slots .exit)) (now (lines .entry)) (now (offers .entry)) (now (carried .entry))
         ≡ stepOf (ringIn head (now (slots .entry)) (now (lines .entry)) (now (offers .entry)) (now (carried .entry)))
-        (callRing (Runs.move p)
+        (callRing (Runs.move (nodeNo p))
         (ringIn head (now (slots .entry)) (now (lines .entry)) (now (offers .entry)) (now (carried .entry)))) ⌝ }
 {
     let q = next as usize;

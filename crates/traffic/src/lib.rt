@@ -15,7 +15,7 @@ ghost use Rattle.network.specs.Runs;
 
 // The first of the node's line goes to the end of its buffer, and the turn mark is cleared.
 pub fn enter(ring: Ring, node: NodeNo) -> Step
-    ensures { λ r. ⌜ r ≡ stepOf ring (callRing (Runs.enter (node .0)) ring) ⌝ }
+    ensures { λ r. ⌜ r ≡ stepOf ring (callRing (Runs.enter node) ring) ⌝ }
 {
     let head = ring.head;
     let mut slots = ring.slots;
@@ -29,7 +29,7 @@ pub fn enter(ring: Ring, node: NodeNo) -> Step
 // The first of the node's buffer goes to the next node: a request is taken by its sender node, a response is delivered to its receiver
 // node, both without a slot; anything else goes to the end of the next node's buffer.
 pub fn move_on(ring: Ring, node: NodeNo) -> Step
-    ensures { λ r. ⌜ r ≡ stepOf ring (callRing (Runs.move (node .0)) ring) ⌝ }
+    ensures { λ r. ⌜ r ≡ stepOf ring (callRing (Runs.move node) ring) ⌝ }
 {
     let head = ring.head;
     let mut slots = ring.slots;

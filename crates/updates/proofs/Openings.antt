@@ -125,12 +125,12 @@ module _ (ring : Ring) (ok : soundRing ring ≡ true) where
   called-refused (addNode slots) e = plan-refused _ e
   called-refused (addChannel s r) e = plan-refused _ e
   called-refused start e = plan-refused _ e
-  called-refused (receive k) e = going-refused k NoSuchChannel _ (numbers .channel-count) e
-  called-refused (send k x) e = going-refused k NoSuchChannel _ (numbers .channel-count) e
-  called-refused (enter p) e = going-refused p NoSuchNode _ (numbers .node-count) e
-  called-refused (move p) e = going-refused p NoSuchNode _ (numbers .node-count) e
-  called-refused (hopsLeft k) e = going-refused k NoSuchChannel _ (numbers .channel-count) e
-  called-refused (waitingSet p) e = there-refused p NoSuchNode _ (numbers .node-count) e
+  called-refused (receive k) e = going-refused (k .0) NoSuchChannel _ (numbers .channel-count) e
+  called-refused (send k x) e = going-refused (k .0) NoSuchChannel _ (numbers .channel-count) e
+  called-refused (enter p) e = going-refused (p .0) NoSuchNode _ (numbers .node-count) e
+  called-refused (move p) e = going-refused (p .0) NoSuchNode _ (numbers .node-count) e
+  called-refused (hopsLeft k) e = going-refused (k .0) NoSuchChannel _ (numbers .channel-count) e
+  called-refused (waitingSet p) e = there-refused (p .0) NoSuchNode _ (numbers .node-count) e
 
 module _ (a : Call) (ring : Ring) where
   pub opening-refused : {r : Refusal} → openingOf ring (subjectOf a) ≡ Refused r → callRing a ring ≡ refused r

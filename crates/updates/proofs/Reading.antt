@@ -9,6 +9,7 @@ use mathlib.Core.Option.{Option, none, some}
 use native.Mathlib.Omega.{arith}
 use lib.ListN.{length}
 use Rattle.batch.specs.declared.BatchRecord.{BatchRecord}
+use Rattle.numbers.specs.declared.ChannelNo.{ChannelNo}
 use Rattle.network.specs.declared.Ring.{Ring}
 use Rattle.network.specs.Network.{Phase, resting, asking, ready, answering, nodeCount, channelCount}
 use Rattle.network.specs.Sound.{isResting, isReady, absent}
@@ -95,6 +96,6 @@ pub some-flag : (o : Option BatchRecord) → offeredFlag o ≢ 0 → absent o �
 some-flag none d = absurd (d refl)
 some-flag (some x) d = refl
 
-pub empty-length : (xs : List ℕ) → length xs ≡ 0 → xs ≡ []
+pub empty-length : (xs : List ChannelNo) → length xs ≡ 0 → xs ≡ []
 empty-length [] e = refl
 empty-length (x ∷ xs) e = absurd (omega arith)

@@ -18,12 +18,12 @@ abbrev pub subjectOf : Call → Subject
 subjectOf (addNode slots) = Plan
 subjectOf (addChannel s r) = Plan
 subjectOf start = Plan
-subjectOf (receive k) = Channel (record { 0 = k })
-subjectOf (send k x) = Channel (record { 0 = k })
-subjectOf (enter p) = Node (record { 0 = p })
-subjectOf (move p) = Node (record { 0 = p })
-subjectOf (hopsLeft k) = Channel (record { 0 = k })
-subjectOf (waitingSet p) = Tasks (record { 0 = p })
+subjectOf (receive k) = Channel k
+subjectOf (send k x) = Channel k
+subjectOf (enter p) = Node p
+subjectOf (move p) = Node p
+subjectOf (hopsLeft k) = Channel k
+subjectOf (waitingSet p) = Tasks p
 
 -- the tests, on the numbers of the head
 abbrev pub begun : ℕ → Bool

@@ -17,6 +17,7 @@ ghost use mathlib.Core.Path.{_≡_};
 ghost use Rattle.network.specs.Answers.{callOf};
 ghost use Rattle.network.specs.Counting.{one};
 ghost use Rattle.network.specs.Layout.{soundRing, stepRing};
+ghost use Rattle.network.specs.Network.{nodeNo, channelNo};
 ghost use Rattle.network.specs.Runs;
 ghost use Rattle.site.specs.InPlace.{answerTo};
 ghost use Rattle.vessel_ring.specs.Answers.{numbersIn, numbers, toldOf, movedOf, hopsLeftIn, waitingIn};
@@ -109,7 +110,7 @@ pub fn add_node(ring: Ring, slots: u8) -> Told
 }
 
 pub fn add_channel(ring: Ring, sender: u8, receiver: u8) -> Told
-    ensures { λ r. ⌜ r ≡ toldOf (stepRing (Runs.addChannel sender receiver) ring) ⌝ }
+    ensures { λ r. ⌜ r ≡ toldOf (stepRing (Runs.addChannel (nodeNo sender) (nodeNo receiver)) ring) ⌝ }
 {
     make(
         ring,
@@ -125,7 +126,7 @@ pub fn start(ring: Ring) -> Told
 }
 
 pub fn receive(ring: Ring, channel: u8) -> Told
-    ensures { λ r. ⌜ r ≡ toldOf (stepRing (Runs.receive channel) ring) ⌝ }
+    ensures { λ r. ⌜ r ≡ toldOf (stepRing (Runs.receive (channelNo channel)) ring) ⌝ }
 {
     make(
         ring,
@@ -135,26 +136,26 @@ pub fn receive(ring: Ring, channel: u8) -> Told
 }
 
 pub fn send(ring: Ring, channel: u8, record: Record) -> Told
-    ensures { λ r. ⌜ r ≡ toldOf (stepRing (Runs.send channel (recordOf «record»)) ring) ⌝ }
+    ensures { λ r. ⌜ r ≡ toldOf (stepRing (Runs.send (channelNo channel) (recordOf «record»)) ring) ⌝ }
 {
     make(ring, RingCall::Send(ChannelNo(channel)), record_of(record))
 }
 
 pub fn enter(ring: Ring, node: u8) -> Told
-    ensures { λ r. ⌜ r ≡ toldOf (stepRing (Runs.enter node) ring) ⌝ }
+    ensures { λ r. ⌜ r ≡ toldOf (stepRing (Runs.enter (nodeNo node)) ring) ⌝ }
 {
     make(ring, RingCall::Enter(NodeNo(node)), BatchRecord::none())
 }
 
 pub fn move_on(ring: Ring, node: u8) -> Moved
-    ensures { λ r. ⌜ r ≡ movedOf (stepRing (Runs.move node) ring) ⌝ }
+    ensures { λ r. ⌜ r ≡ movedOf (stepRing (Runs.move (nodeNo node)) ring) ⌝ }
 {
     let made = calls::perform(ring, RingCall::Move(NodeNo(node)), BatchRecord::none());
     delivery_in(made)
 }
 
 pub fn hops_left(ring: Ring, channel: u8) -> HopsLeft
-    ensures { λ r. ⌜ r ≡ hopsLeftIn (answerTo (Runs.hopsLeft channel) ring) ⌝ }
+    ensures { λ r. ⌜ r ≡ hopsLeftIn (answerTo (Runs.hopsLeft (channelNo channel)) ring) ⌝ }
 {
     let said = numbers_in(questions::hops_left(ring, ChannelNo(channel)));
     HopsLeft {
@@ -164,7 +165,7 @@ pub fn hops_left(ring: Ring, channel: u8) -> HopsLeft
 }
 
 pub fn waiting_set(ring: Ring, node: u8) -> Waiting
-    ensures { λ r. ⌜ r ≡ waitingIn (answerTo (Runs.waitingSet node) ring) ⌝ }
+    ensures { λ r. ⌜ r ≡ waitingIn (answerTo (Runs.waitingSet (nodeNo node)) ring) ⌝ }
 {
     let said = numbers_in(questions::waiting_set(ring, NodeNo(node)));
     let tasks = questions::waiting_tasks(said.set);

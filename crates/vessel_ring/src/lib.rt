@@ -21,6 +21,7 @@ use runner::Session;
 ghost use mathlib.Core.Path.{_≡_};
 ghost use Rattle.network.specs.Counting.{one};
 ghost use Rattle.network.specs.Layout.{freshRing, soundRing};
+ghost use Rattle.network.specs.Network.{nodeNo, channelNo};
 ghost use Rattle.network.specs.Runs;
 ghost use Rattle.site.specs.InPlace.{ringAfter, answerTo};
 ghost use Rattle.tape.specs.Tape.{readAt};
@@ -106,8 +107,8 @@ pub extern "C" fn vessel_ring_add_node(ring: &mut Ring, slots: u8) -> u8
 
 #[no_mangle]
 pub extern "C" fn vessel_ring_add_channel(ring: &mut Ring, sender: u8, receiver: u8) -> u8
-    ensures { λ r. ⌜ (now (ring .exit) ≡ ringAfter (Runs.addChannel sender receiver) (now (ring .entry)))
-        × (r ≡ numberTo (Runs.addChannel sender receiver) (now (ring .entry))) ⌝ }
+    ensures { λ r. ⌜ (now (ring .exit) ≡ ringAfter (Runs.addChannel (nodeNo sender) (nodeNo receiver)) (now (ring .entry)))
+        × (r ≡ numberTo (Runs.addChannel (nodeNo sender) (nodeNo receiver)) (now (ring .entry))) ⌝ }
 {
     let s = by_number::add_channel(*ring, sender, receiver);
     *ring = s.ring;
@@ -126,8 +127,8 @@ pub extern "C" fn vessel_ring_start(ring: &mut Ring) -> u8
 
 #[no_mangle]
 pub extern "C" fn vessel_ring_receive(ring: &mut Ring, channel: u8) -> u8
-    ensures { λ r. ⌜ (now (ring .exit) ≡ ringAfter (Runs.receive channel) (now (ring .entry)))
-        × (r ≡ numberTo (Runs.receive channel) (now (ring .entry))) ⌝ }
+    ensures { λ r. ⌜ (now (ring .exit) ≡ ringAfter (Runs.receive (channelNo channel)) (now (ring .entry)))
+        × (r ≡ numberTo (Runs.receive (channelNo channel)) (now (ring .entry))) ⌝ }
 {
     let s = by_number::receive(*ring, channel);
     *ring = s.ring;
@@ -136,8 +137,8 @@ pub extern "C" fn vessel_ring_receive(ring: &mut Ring, channel: u8) -> u8
 
 #[no_mangle]
 pub extern "C" fn vessel_ring_send(ring: &mut Ring, channel: u8, record: Record) -> u8
-    ensures { λ r. ⌜ (now (ring .exit) ≡ ringAfter (Runs.send channel (recordOf «record»)) (now (ring .entry)))
-        × (r ≡ numberTo (Runs.send channel (recordOf «record»)) (now (ring .entry))) ⌝ }
+    ensures { λ r. ⌜ (now (ring .exit) ≡ ringAfter (Runs.send (channelNo channel) (recordOf «record»)) (now (ring .entry)))
+        × (r ≡ numberTo (Runs.send (channelNo channel) (recordOf «record»)) (now (ring .entry))) ⌝ }
 {
     let s = by_number::send(*ring, channel, record);
     *ring = s.ring;
@@ -146,8 +147,8 @@ pub extern "C" fn vessel_ring_send(ring: &mut Ring, channel: u8, record: Record)
 
 #[no_mangle]
 pub extern "C" fn vessel_ring_enter(ring: &mut Ring, node: u8) -> u8
-    ensures { λ r. ⌜ (now (ring .exit) ≡ ringAfter (Runs.enter node) (now (ring .entry)))
-        × (r ≡ numberTo (Runs.enter node) (now (ring .entry))) ⌝ }
+    ensures { λ r. ⌜ (now (ring .exit) ≡ ringAfter (Runs.enter (nodeNo node)) (now (ring .entry)))
+        × (r ≡ numberTo (Runs.enter (nodeNo node)) (now (ring .entry))) ⌝ }
 {
     let s = by_number::enter(*ring, node);
     *ring = s.ring;
@@ -156,8 +157,8 @@ pub extern "C" fn vessel_ring_enter(ring: &mut Ring, node: u8) -> u8
 
 #[no_mangle]
 pub extern "C" fn vessel_ring_move(ring: &mut Ring, node: u8) -> Delivery
-    ensures { λ r. ⌜ (now (ring .exit) ≡ ringAfter (Runs.move node) (now (ring .entry)))
-        × (r ≡ deliveryTo (Runs.move node) (now (ring .entry))) ⌝ }
+    ensures { λ r. ⌜ (now (ring .exit) ≡ ringAfter (Runs.move (nodeNo node)) (now (ring .entry)))
+        × (r ≡ deliveryTo (Runs.move (nodeNo node)) (now (ring .entry))) ⌝ }
 {
     let s = by_number::move_on(*ring, node);
     *ring = s.ring;
@@ -166,14 +167,14 @@ pub extern "C" fn vessel_ring_move(ring: &mut Ring, node: u8) -> Delivery
 
 #[no_mangle]
 pub extern "C" fn vessel_ring_hops_left(ring: &Ring, channel: u8) -> HopsLeft
-    ensures { λ r. ⌜ r ≡ hopsLeftIn (answerTo (Runs.hopsLeft channel) (now (ring .entry))) ⌝ }
+    ensures { λ r. ⌜ r ≡ hopsLeftIn (answerTo (Runs.hopsLeft (channelNo channel)) (now (ring .entry))) ⌝ }
 {
     by_number::hops_left(*ring, channel)
 }
 
 #[no_mangle]
 pub extern "C" fn vessel_ring_waiting_set(ring: &Ring, node: u8) -> Waiting
-    ensures { λ r. ⌜ r ≡ waitingIn (answerTo (Runs.waitingSet node) (now (ring .entry))) ⌝ }
+    ensures { λ r. ⌜ r ≡ waitingIn (answerTo (Runs.waitingSet (nodeNo node)) (now (ring .entry))) ⌝ }
 {
     by_number::waiting_set(*ring, node)
 }

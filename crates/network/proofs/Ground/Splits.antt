@@ -1,4 +1,5 @@
--- Ground. Case splits that keep the equation: on a test, on two numbers, on a list, on an offer, on a phase. Assumes nothing.
+-- Ground. Case splits that keep the equation: on a test and on two numbers (numbers), on a list, on an offer, on a phase. Assumes
+-- nothing.
 use Prim.Native.Nat.{ℕ, _≤_, _<_}
 use mathlib.Core.Path.{_≡_, refl}
 use mathlib.Core.Logic.{_≢_}
@@ -8,20 +9,10 @@ use mathlib.Core.Option.{Option, none, some}
 use lib.Dec.{eqb, ltb}
 use borrow.Author.Tests.{eqb-true, eqb-false, ltb-true, ltb-false}
 use Rattle.batch.specs.declared.BatchRecord.{BatchRecord}
+pub use Rattle.numbers.proofs.Splits.{by-test, by-same, by-less}
 use Rattle.network.specs.Network.{Phase, resting, asking, ready, answering}
 
 module _ {ℓ} {X : Type ℓ} where
-  pub by-test : (b : Bool) → (b ≡ true → X) → (b ≡ false → X) → X
-  by-test true yes-so not-so = yes-so refl
-  by-test false yes-so not-so = not-so refl
-
-  -- two numbers are the same or not
-  pub by-same : (a b : ℕ) → (a ≡ b → X) → (a ≢ b → X) → X
-  by-same a b same other = by-test (eqb a b) (λ e. same (eqb-true a b e)) (λ e. other (eqb-false a b e))
-
-  pub by-less : (a b : ℕ) → (a < b → X) → (b ≤ a → X) → X
-  by-less a b less not-less = by-test (ltb a b) (λ e. less (ltb-true a b e)) (λ e. not-less (ltb-false a b e))
-
   pub by-list {κ} : {A : Type κ} (xs : List A) → (xs ≡ [] → X) → ((y : A) (ys : List A) → xs ≡ y ∷ ys → X) → X
   by-list [] empty more = empty refl
   by-list (y ∷ ys) empty more = more y ys refl

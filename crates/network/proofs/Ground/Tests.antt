@@ -1,7 +1,7 @@
 -- Ground. What a test over the numbers below a bound, or over a list, says of each of them, and back. A number stands in a list where its
 -- count is above 0. Assumes nothing.
 use Prim.Native.Nat.{ℕ, zero, suc, _≤_, _<_}
-use mathlib.Core.Path.{_≡_, refl}
+use mathlib.Core.Path.{_≡_, refl, subst}
 use mathlib.Core.Logic.{_↔_}
 use mathlib.Core.Bool.{Bool, true, _&&_}
 use mathlib.Core.List.{List, [], _∷_}
@@ -10,7 +10,9 @@ use native.Mathlib.Omega.{arith}
 use lib.Dec.{eqb, leb, ltb}
 use borrow.Author.Tests.{eqb-true, leb-true, ltb-true, eq-eqb, le-leb, lt-ltb}
 use Rattle.batch.specs.Good.{every}
-use Rattle.network.specs.Counting.{allBelow, weigh, count}
+use Rattle.numbers.specs.declared.ChannelNo.{ChannelNo}
+use Rattle.network.specs.Counting.{allBelow, weigh}
+use Rattle.network.specs.Network.{channelNo, timesIn}
 use Rattle.network.proofs.Ground.Splits.{by-same, and-left, and-right, and-both}
 use Rattle.network.proofs.Ground.Counting.{count-same, count-other}
 
@@ -33,20 +35,21 @@ pub each-below : (n : ℕ) {f : ℕ → Bool} {P : ℕ → Type 0} → ((p : ℕ
     (allBelow n f ≡ true) ↔ ((p : ℕ) → p < n → P p)
 each-below n {f} reads = (λ e p l. reads p .0 (all-below n f e p l), λ h. below-all n f (λ p l. reads p .1 (h p l)))
 
-pub each-of : (xs : List ℕ) {f : ℕ → Bool} {P : ℕ → Type 0} → ((k : ℕ) → (f k ≡ true) ↔ P k) →
-    (every f xs ≡ true) ↔ ((k : ℕ) → 0 < count k xs → P k)
+pub each-of : (ks : List ChannelNo) {f : ChannelNo → Bool} {P : ℕ → Type 0} → ((k : ChannelNo) → (f k ≡ true) ↔ P (k .0)) →
+    (every f ks ≡ true) ↔ ((k : ℕ) → 0 < timesIn ks (channelNo k) → P k)
 unfolding weigh
-each-of xs {f} {P} reads = (of xs, all xs)
+each-of ks {f} {P} reads = (of ks, all ks)
   where
-    of : (ys : List ℕ) → every f ys ≡ true → (k : ℕ) → 0 < count k ys → P k
+    of : (js : List ChannelNo) → every f js ≡ true → (k : ℕ) → 0 < timesIn js (channelNo k) → P k
     of [] e k l = absurd (not-suc-le-zero l)
-    of (y ∷ ys) e k l =
-        by-same y k (λ same. rw same at (reads y .0 (and-left (f y) (every f ys) e)))
-        (λ d. of ys (and-right (f y) (every f ys) e) k (omega (arith, count-other y k d)))
+    of (j ∷ js) e k l =
+        by-same (j .0) k (λ same. subst P same (reads j .0 (and-left (f j) (every f js) e)))
+        (λ d. of js (and-right (f j) (every f js) e) k (omega (arith, count-other (j .0) k d)))
 
-    all : (ys : List ℕ) → ((k : ℕ) → 0 < count k ys → P k) → every f ys ≡ true
+    all : (js : List ChannelNo) → ((k : ℕ) → 0 < timesIn js (channelNo k) → P k) → every f js ≡ true
     all [] h = refl
-    all (y ∷ ys) h = and-both (f y) (every f ys) (reads y .1 (h y (omega (arith, count-same y)))) (all ys (λ k l. h k (omega arith)))
+    all (j ∷ js) h =
+        and-both (f j) (every f js) (reads j .1 (h (j .0) (omega (arith, count-same (j .0))))) (all js (λ k l. h k (omega arith)))
 
 -- A test made of tests, read as a statement made of statements: `simp reads at e` and `simp reads` go from one to the other.
 

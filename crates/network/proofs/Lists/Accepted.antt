@@ -14,16 +14,19 @@ use Rattle.refusal.specs.declared.Refusal.{Refusal}
 use Rattle.batch.specs.declared.BatchRecord.{BatchRecord}
 use Rattle.batch.specs.Good.{goodRecord, verdictOf}
 use Rattle.batch.proofs.Good.{good-exactly}
+use Rattle.numbers.specs.declared.NodeNo.{NodeNo}
+use Rattle.numbers.specs.declared.ChannelNo.{ChannelNo}
 use Rattle.hops.specs.Hops.{next}
 use Rattle.hops.proofs.Laws
 use Rattle.network.specs.Counting.{one, sum, count}
-use Rattle.network.specs.Network.{Network, Phase, resting, asking, ready, answering, nodeCount, channelCount, node, channel, nextNode, moving, withChannel}
+use Rattle.network.specs.Network.{Network, Phase, resting, asking, ready, answering, numbersOf, nodeCount, channelCount, node, channel, nextNode, moving, withChannel}
 use Rattle.network.specs.Sound.{Limits, lastCount, oneMore, isResting, isReady, absent}
 use Rattle.network.specs.Calls.{Event, done, delivered, Outcome, refused, unless, Arrival, taken, passing, arrived, arrival, joinLine, respond, takeRequest, deliver, leave, hasSlot, handOver}
 use Rattle.network.specs.Calls
 use Rattle.network.specs.Runs.{Call, call, counts}
 use Rattle.network.specs.Runs
 use Rattle.network.proofs.Ground.Splits.{by-test, by-same, by-list, by-phase, both-ways}
+use Rattle.network.proofs.Ground.Numbers.{length-numbers}
 use Rattle.network.proofs.Ground.Counting.{sum-term, count-same, weigh-cons}
 use Rattle.network.proofs.Ground.Joined.{resting-is, ready-is, absent-is}
 use Rattle.hops.proofs.Laws.{next-below}
@@ -62,30 +65,30 @@ module _ (N : Net) (s : State) (t : Sound N s) (p k : ℕ) (ks : List ℕ) (lp :
       absurd (omega (arith, first-in, sum-term (N .n) p (λ q. count k (s .buffer q) + count k (s .line q)) lp))
 
 -- what becomes of a message under way that reaches node q
-pub data ArrivesAs (σ : Network) (q k : ℕ) : Arrival → Type 0 where
-  is-taken : channel σ k .phase ≡ asking → q ≡ channel σ k .sender → ArrivesAs σ q k taken
-  is-arrived : {x : BatchRecord} → channel σ k .phase ≡ answering x → q ≡ channel σ k .receiver → ArrivesAs σ q k (arrived x)
-  is-passing : q ≢ targetIn (netOf σ) (channel σ k .phase) k → ArrivesAs σ q k passing
+pub data ArrivesAs (σ : Network) (q : NodeNo) (k : ChannelNo) : Arrival → Type 0 where
+  is-taken : channel σ k .phase ≡ asking → q .0 ≡ channel σ k .sender .0 → ArrivesAs σ q k taken
+  is-arrived : {x : BatchRecord} → channel σ k .phase ≡ answering x → q .0 ≡ channel σ k .receiver .0 → ArrivesAs σ q k (arrived x)
+  is-passing : q .0 ≢ targetIn (netOf σ) (channel σ k .phase) (k .0) → ArrivesAs σ q k passing
 
-pub arrives-as : (σ : Network) (q k : ℕ) → moving (channel σ k .phase) ≡ true → ArrivesAs σ q k (arrival σ q k)
+pub arrives-as : (σ : Network) (q : NodeNo) (k : ChannelNo) → moving (channel σ k .phase) ≡ true → ArrivesAs σ q k (arrival σ q k)
 unfolding arrival
 arrives-as σ q k m =
     by-phase (channel σ k .phase)
     (λ f. absurd (false≢true (rw f at m)))
     (λ f.
-    by-same q (channel σ k .sender)
+    by-same (q .0) (channel σ k .sender .0)
     (λ same. rw (f, eq-eqb _ _ same) (is-taken f same))
     (λ other. rw (f, ne-eqb _ _ other) (is-passing (rw f other))))
     (λ f. absurd (false≢true (rw f at m)))
     (λ x f.
-    by-same q (channel σ k .receiver)
+    by-same (q .0) (channel σ k .receiver .0)
     (λ same. rw (f, eq-eqb _ _ same) (is-arrived f same))
     (λ other. rw (f, ne-eqb _ _ other) (is-passing (rw f other))))
 
 -- a channel's phase changes and its message joins the line of p
-announced : (σ : Network) (p k : ℕ) (f : Phase) (o : Option BatchRecord) → p < nodeCount σ → k < channelCount σ →
-    Becomes σ (joinLine p k (withChannel k f o σ)) (join p k (turn k f o (stateOf σ)))
-announced σ p k f o lp lk = and-then (join p k) (turned σ k f o lk) (joined _ p lp k)
+announced : (σ : Network) (p : NodeNo) (k : ChannelNo) (f : Phase) (o : Option BatchRecord) → p .0 < nodeCount σ → k .0 < channelCount σ →
+    Becomes σ (joinLine p k (withChannel k f o σ)) (join (p .0) (k .0) (turn (k .0) f o (stateOf σ)))
+announced σ p k f o lp lk = and-then (join (p .0) (k .0)) (turned σ k f o lk) (joined _ p lp k)
 
 module _ (L : Limits) (σ : Network) (h : Started L σ) where
   open Started h using (running, delivery-limit, tables)
@@ -105,72 +108,77 @@ module _ (L : Limits) (σ : Network) (h : Started L σ) where
       After P (unless (σ .started) (refused r) (unless (ltb i n) (refused r′) o))
   if-there i n r r′ o h = if-met (σ .started) r _ λ s. if-met (ltb i n) r′ o λ l. h (ltb-true i n l)
 
-  pub receive-did : (k : ℕ) → After (Stepped σ (Runs.receive k)) (Calls.receive k σ)
+  pub receive-did : (k : ChannelNo) → After (Stepped σ (Runs.receive k)) (Calls.receive k σ)
   unfolding Calls.receive
   receive-did k =
-      if-there k (channelCount σ) _ _ _ λ lk.
+      if-there (k .0) (channelCount σ) _ _ _ λ lk.
       if-met (isResting (channel σ k .phase)) _ _ λ f.
-      was-done (stepped _ (did-receive k lk (resting-is _ f))
-      (announced σ _ k asking _ (tables .receiver-below k lk) lk) delivery-limit)
+      was-done (stepped _ (did-receive (k .0) lk (resting-is _ f))
+      (announced σ _ k asking _ (tables .receiver-below (k .0) lk) lk) delivery-limit)
 
-  pub send-did : (k : ℕ) (x : BatchRecord) → After (Stepped σ (Runs.send k x)) (Calls.send k x σ)
+  pub send-did : (k : ChannelNo) (x : BatchRecord) → After (Stepped σ (Runs.send k x)) (Calls.send k x σ)
   unfolding Calls.send
   send-did k x =
-      if-there k (channelCount σ) _ _ _ λ lk.
+      if-there (k .0) (channelCount σ) _ _ _ λ lk.
       if-good (verdictOf x) _ λ g.
       if-met (absent (channel σ k .offer)) _ _ λ a.
       was-done (offered lk (good-exactly x .1 g) (absent-is _ a) (isReady (channel σ k .phase)) refl)
     where
-      offered : k < channelCount σ → goodRecord x ≡ true → channel σ k .offer ≡ none →
+      offered : k .0 < channelCount σ → goodRecord x ≡ true → channel σ k .offer ≡ none →
           (b : Bool) → isReady (channel σ k .phase) ≡ b →
           Stepped σ (Runs.send k x) done (cond b (respond k x σ) (withChannel k (channel σ k .phase) (some x) σ))
       offered lk g a true r =
-          stepped _ (did-answer k x lk g (ready-is _ r)) (announced σ _ k _ _ (tables .sender-below k lk) lk) delivery-limit
-      offered lk g a false r = stepped _ (did-offer k x lk g a r) (turned σ k _ _ lk) delivery-limit
+          stepped _ (did-answer (k .0) x lk g (ready-is _ r)) (announced σ _ k _ _ (tables .sender-below (k .0) lk) lk) delivery-limit
+      offered lk g a false r = stepped _ (did-offer (k .0) x lk g a r) (turned σ k _ _ lk) delivery-limit
 
-  pub enter-did : (p : ℕ) → After (Stepped σ (Runs.enter p)) (Calls.enter p σ)
+  pub enter-did : (p : NodeNo) → After (Stepped σ (Runs.enter p)) (Calls.enter p σ)
   unfolding Calls.enter
   enter-did p =
-      if-there p (nodeCount σ) _ _ _ λ lp.
+      if-there (p .0) (nodeCount σ) _ _ _ λ lp.
       by-list (node σ p .line) (λ none. rw none not-done) λ k ks e.
       rw e (
       if-met (hasSlot σ p) _ _ λ room.
-      was-done (stepped _ (did-enter p k ks lp e (ltb-true _ _ room)) (pushed σ p lp k ks) delivery-limit)
+      was-done (stepped _ (did-enter (p .0) (k .0) (numbersOf ks) lp (ap numbersOf e) (rw length-numbers (ltb-true _ _ room)))
+      (pushed σ p lp k ks) delivery-limit)
       )
 
   -- the first of the buffer of p leaves for the next node
-  module _ (p k : ℕ) (ks : List ℕ) (lp : p < nodeCount σ) (e : node σ p .buffer ≡ k ∷ ks) where
-    known : k < channelCount σ
-    known = first-passes (netOf σ) tables p k ks lp e .0
+  module _ (p : NodeNo) (k : ChannelNo) (ks : List ChannelNo) (lp : p .0 < nodeCount σ) (e : node σ p .buffer ≡ k ∷ ks) where
+    first : numbersOf (node σ p .buffer) ≡ k .0 ∷ numbersOf ks
+    first = ap numbersOf e
 
-    left : Becomes σ (leave p ks σ) (pop p ks (stateOf σ))
+    known : k .0 < channelCount σ
+    known = first-passes (netOf σ) tables (p .0) (k .0) (numbersOf ks) lp first .0
+
+    left : Becomes σ (leave p ks σ) (pop (p .0) (numbersOf ks) (stateOf σ))
     left = popped σ p lp ks
 
-    taken-there : channel σ k .phase ≡ asking → nextNode σ p ≡ channel σ k .sender →
+    taken-there : channel σ k .phase ≡ asking → nextNode σ p .0 ≡ channel σ k .sender .0 →
         (o : Option BatchRecord) → channel σ k .offer ≡ o →
         Stepped σ (Runs.move p) done (takeRequest k o (leave p ks σ))
     taken-there f at none eo =
-        stepped _ (did-ask p k ks lp e f at eo) (and-then (turn k ready none) left (turned _ k ready none known)) delivery-limit
+        stepped _ (did-ask (p .0) (k .0) (numbersOf ks) lp first f at eo)
+        (and-then (turn (k .0) ready none) left (turned _ k ready none known)) delivery-limit
     taken-there f at (some x) eo =
-        stepped _ (did-respond p k ks x lp e f at eo)
-        (and-then (λ s. join (channel σ k .sender) k (turn k (answering x) none s)) left
-        (announced _ _ k (answering x) none (still-node left _ (tables .sender-below k known)) known)) delivery-limit
+        stepped _ (did-respond (p .0) (k .0) (numbersOf ks) x lp first f at eo)
+        (and-then (λ s. join (channel σ k .sender .0) (k .0) (turn (k .0) (answering x) none s)) left
+        (announced _ _ k (answering x) none (still-node left _ (tables .sender-below (k .0) known)) known)) delivery-limit
 
-    delivered-there : (x : BatchRecord) → channel σ k .phase ≡ answering x → nextNode σ p ≡ channel σ k .receiver →
+    delivered-there : (x : BatchRecord) → channel σ k .phase ≡ answering x → nextNode σ p .0 ≡ channel σ k .receiver .0 →
         Stepped σ (Runs.move p) (delivered k x) (deliver k (leave p ks σ))
     unfolding oneMore
     delivered-there x f at =
-        stepped _ (did-deliver p k ks x lp e f at)
-        (recounted _ (and-then (turn k resting _) left (turned _ k resting _ known))) (omega arith)
+        stepped _ (did-deliver (p .0) (k .0) (numbersOf ks) x lp first f at)
+        (recounted _ (and-then (turn (k .0) resting _) left (turned _ k resting _ known))) (omega arith)
 
-    passed-on : nextNode σ p ≢ targetIn (netOf σ) (channel σ k .phase) k →
+    passed-on : nextNode σ p .0 ≢ targetIn (netOf σ) (channel σ k .phase) (k .0) →
         length (node σ (nextNode σ p) .buffer) < node σ (nextNode σ p) .slots →
         node σ (nextNode σ p) .mark ≡ false →
         Stepped σ (Runs.move p) done (Calls.pass (nextNode σ p) k (leave p ks σ))
     passed-on d room clear =
-        let ends = target-below (netOf σ) k tables known in
-        stepped _ (did-pass p k ks lp e d (next-elsewhere _ _ _ lp ends d) room clear)
-        (and-then (pass (nextNode σ p) k) left (passed _ _ (still-node left _ (next-below _ p lp)) k)) delivery-limit
+        let ends = target-below (netOf σ) (k .0) tables known in
+        stepped _ (did-pass (p .0) (k .0) (numbersOf ks) lp first d (next-elsewhere _ _ _ lp ends d) (rw length-numbers room) clear)
+        (and-then (pass (nextNode σ p .0) (k .0)) left (passed _ _ (still-node left _ (next-below _ (p .0) lp)) k)) delivery-limit
 
     handed-over : (w : Arrival) → ArrivesAs σ (nextNode σ p) k w →
         After (Stepped σ (Runs.move p)) (handOver p (nextNode σ p) k ks w σ)
@@ -181,12 +189,13 @@ module _ (L : Limits) (σ : Network) (h : Started L σ) where
         if-met (not (node σ (nextNode σ p) .mark)) _ _ λ clear.
         was-done (passed-on d (ltb-true _ _ room) (not-true _ clear))
 
-  pub move-did : (p : ℕ) → After (Stepped σ (Runs.move p)) (Calls.move p σ)
+  pub move-did : (p : NodeNo) → After (Stepped σ (Runs.move p)) (Calls.move p σ)
   unfolding Calls.move
   move-did p =
-      if-there p (nodeCount σ) _ _ _ λ lp.
+      if-there (p .0) (nodeCount σ) _ _ _ λ lp.
       by-list (node σ p .buffer) (λ none. rw none not-done) λ k ks e.
-      rw e (handed-over p k ks lp e _ (arrives-as σ _ k (first-moving (netOf σ) (stateOf σ) tables p k ks lp e)))
+      let moves = first-moving (netOf σ) (stateOf σ) tables (p .0) (k .0) (numbersOf ks) lp (ap numbersOf e) in
+      rw e (handed-over p k ks lp e _ (arrives-as σ _ k moves))
 
   -- every call on a sound started ring
 
@@ -205,8 +214,8 @@ module _ (L : Limits) (σ : Network) (h : Started L σ) where
   call-did (Runs.enter p) = after-some (λ e τ. by-step refl) (enter-did p)
   call-did (Runs.move p) = after-some (λ e τ. by-step refl) (move-did p)
   call-did (Runs.hopsLeft k) =
-      if-there k (channelCount σ) _ _ _ λ l.
+      if-there (k .0) (channelCount σ) _ _ _ λ l.
       was-done (by-question (silent refl (λ j. refl) (λ j. refl)) refl)
   call-did (Runs.waitingSet p) =
-      if-met (ltb p (nodeCount σ)) _ _ λ l.
+      if-met (ltb (p .0) (nodeCount σ)) _ _ λ l.
       was-done (by-question (silent refl (λ j. refl) (λ j. refl)) refl)

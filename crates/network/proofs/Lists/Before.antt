@@ -12,8 +12,10 @@ use lib.ListN.{length, getD, length-append, List·getD-append, List·getD-eq-def
 use lib.Seq.{getD-append-seam}
 use borrow.Author.Tests.{ltb-true, leb-true, le-leb}
 use Rattle.refusal.specs.declared.Refusal.{Refusal}
-use Rattle.network.specs.Counting.{one, allBelow, weigh, count}
-use Rattle.network.specs.Network.{Network, NodeState, ChannelState, resting, fresh, nodeCount, channelCount, slotCount, node, channel, moving, noNode, noChannel, timesOn}
+use Rattle.numbers.specs.declared.NodeNo.{NodeNo}
+use Rattle.numbers.specs.declared.ChannelNo.{ChannelNo}
+use Rattle.network.specs.Counting.{one, allBelow, weigh}
+use Rattle.network.specs.Network.{Network, NodeState, ChannelState, resting, fresh, nodeNo, channelNo, timesIn, nodeCount, channelCount, slotCount, node, channel, moving, noNode, noChannel, timesOn}
 use Rattle.network.specs.Sound.{Limits, soundBefore, soundAfter, sound}
 use Rattle.network.specs.Calls.{Event, Outcome, refused, unless}
 use Rattle.network.specs.Calls
@@ -34,8 +36,8 @@ pub record IdleNode (L : Limits) (s : NodeState) : Type 0 where
   pub unmarked : s .mark ≡ false
 
 pub record IdleChannel (n : ℕ) (s : ChannelState) : Type 0 where
-  pub sender-below : s .sender < n
-  pub receiver-below : s .receiver < n
+  pub sender-below : s .sender .0 < n
+  pub receiver-below : s .receiver .0 < n
   pub at-rest : s .phase ≡ resting
   pub no-offer : s .offer ≡ none
 
@@ -48,27 +50,28 @@ pub record Idle (L : Limits) (ns : List NodeState) (cs : List ChannelState) (d :
   pub each-channel : (k : ℕ) → k < length cs → IdleChannel (length ns) (getD cs k noChannel)
 
 -- a list in which nothing stands is empty
-none-empty : (xs : List ℕ) → ((k : ℕ) → 0 < count k xs → ⊥) → xs ≡ []
+none-empty : (ks : List ChannelNo) → ((k : ℕ) → 0 < timesIn ks (channelNo k) → ⊥) → ks ≡ []
 unfolding weigh
 none-empty [] h = refl
-none-empty (x ∷ xs) h = absurd (h x (omega (arith, count-same x)))
+none-empty (k ∷ ks) h = absurd (h (k .0) (omega (arith, count-same (k .0))))
 
 -- what `soundBefore` says
 before-reads : (σ : Network) →
     (soundBefore σ ≡ true) ↔
-    (((k : ℕ) → k < channelCount σ → (channel σ k .phase ≡ resting) × (channel σ k .offer ≡ none))
-    × ((p : ℕ) → p < nodeCount σ → node σ p .mark ≡ false)
+    (((k : ℕ) → k < channelCount σ → (channel σ (channelNo k) .phase ≡ resting) × (channel σ (channelNo k) .offer ≡ none))
+    × ((p : ℕ) → p < nodeCount σ → node σ (nodeNo p) .mark ≡ false)
     × (σ .deliveries ≡ 0))
 unfolding soundBefore
 before-reads σ =
     three-read
-    (each-below (channelCount σ) (λ k. two-read (resting-reads (channel σ k .phase)) (absent-reads (channel σ k .offer))))
-    (each-below (nodeCount σ) (λ p. not-reads (node σ p .mark)))
+    (each-below (channelCount σ)
+    (λ k. two-read (resting-reads (channel σ (channelNo k) .phase)) (absent-reads (channel σ (channelNo k) .offer))))
+    (each-below (nodeCount σ) (λ p. not-reads (node σ (nodeNo p) .mark)))
     (eqb-reads (σ .deliveries) 0)
 
 -- how often k stands at p
 abbrev timesAt : Network → ℕ → ℕ → ℕ
-timesAt σ k p = count k (node σ p .buffer) + count k (node σ p .line)
+timesAt σ k p = timesIn (node σ (nodeNo p) .buffer) (channelNo k) + timesIn (node σ (nodeNo p) .line) (channelNo k)
 
 module _ (L : Limits) (σ : Network) where
   abbrev IdleRing : Type 0
@@ -100,9 +103,9 @@ module _ (L : Limits) (σ : Network) where
       h : Facts L σ
       h = facts L σ ok
 
-      nowhere : (p : ℕ) → p < nodeCount σ → (k : ℕ) → k < channelCount σ → channel σ k .phase ≡ resting → 0 < timesAt σ k p → ⊥
+      nowhere : (p : ℕ) → p < nodeCount σ → (k : ℕ) → k < channelCount σ → channel σ (channelNo k) .phase ≡ resting → 0 < timesAt σ k p → ⊥
       nowhere p lp k lk rests i =
-          let none-on : timesOn σ k ≡ 0 = h .each-channel k lk .once ∙ ap (λ f. one (moving f)) rests in
+          let none-on : timesOn σ (channelNo k) ≡ 0 = h .each-channel k lk .once ∙ ap (λ f. one (moving f)) rests in
           omega (arith, sum-term (nodeCount σ) p (timesAt σ k) lp)
 
   -- an idle ring is sound, whichever clause of the start it is held to
@@ -206,20 +209,20 @@ module _ (L : Limits) (σ : Network) (ok : sound L σ ≡ true) (s : σ .started
         };
       }) s)
 
-  add-channel-before : (a b : ℕ) → After (Prepared L (Runs.addChannel a b)) (Calls.addChannel L a b σ)
+  add-channel-before : (a b : NodeNo) → After (Prepared L (Runs.addChannel a b)) (Calls.addChannel L a b σ)
   unfolding Calls.addChannel
   add-channel-before a b =
       if-met (not (σ .started)) _ _ λ e.
       if-met (ltb (channelCount σ) (L .channels)) _ _ λ room.
-      if-met (ltb a (nodeCount σ) && ltb b (nodeCount σ)) _ _ λ ends.
+      if-met (ltb (a .0) (nodeCount σ) && ltb (b .0) (nodeCount σ)) _ _ λ ends.
       was-done (built _ (silent refl (λ k. refl) (λ k. refl)) (record {
         node-limit = idle .node-limit;
         channel-limit = rw length-append (omega (arith, ltb-true));
         none-delivered = idle .none-delivered;
         each-node = idle .each-node;
         each-channel = each-snoc (IdleChannel (nodeCount σ)) (σ .channels) _ noChannel (idle .each-channel) (record {
-          sender-below = ltb-true a (nodeCount σ) (and-left _ _ ends);
-          receiver-below = ltb-true b (nodeCount σ) (and-right (ltb a (nodeCount σ)) _ ends);
+          sender-below = ltb-true (a .0) (nodeCount σ) (and-left _ _ ends);
+          receiver-below = ltb-true (b .0) (nodeCount σ) (and-right (ltb (a .0) (nodeCount σ)) _ ends);
           at-rest = refl;
           no-offer = refl;
         });
@@ -252,5 +255,5 @@ module _ (L : Limits) (σ : Network) (ok : sound L σ ≡ true) (s : σ .started
   call-before (Runs.move p) = not-yet _ _
   call-before (Runs.hopsLeft k) = not-yet _ _
   call-before (Runs.waitingSet p) =
-      if-met (ltb p (nodeCount σ)) _ _ λ l.
+      if-met (ltb (p .0) (nodeCount σ)) _ _ λ l.
       was-done (built σ (silent refl (λ k. refl) (λ k. refl)) idle s)

@@ -2,60 +2,63 @@
 -- words of the theory's `Sound`, so a started ring passes the test exactly when its tables are `Sound` and its sizes are within the
 -- limits. Assumes nothing.
 use Prim.Native.Nat.{ℕ, _≤_, _<_}
-use mathlib.Core.Path.{_≡_, refl}
+use mathlib.Core.Path.{_≡_}
 use mathlib.Core.Logic.{_↔_}
 use mathlib.Core.Bool.{true, cond}
 use mathlib.Core.Option.{none}
 use lib.ListN.{length}
 use Rattle.hops.specs.Hops.{hops}
-use Rattle.network.specs.Counting.{one, count, occupied}
-use Rattle.network.specs.Network.{Network, Phase, ready, nodeCount, channelCount, slotCount, node, channel, moving, entryOf, targetOf, timesOn}
+use Rattle.network.specs.Counting.{one, occupied}
+use Rattle.network.specs.Network.{Network, Phase, ready, nodeNo, channelNo, timesIn, nodeCount, channelCount, slotCount, node, channel, moving, entryOf, targetOf, timesOn}
 use Rattle.network.specs.Sound.{Limits, lastCount, goodOffer, goodCarried, lineFits, bufferFits, soundNode, soundChannel, soundBefore, soundAfter, sound}
+use Rattle.network.proofs.Ground.Numbers.{length-numbers, occupied-numbers, end-number}
 use Rattle.network.proofs.Ground.Tests.{leb-reads, ltb-reads, eqb-reads, each-below, each-of}
 use Rattle.network.proofs.Ground.Joined.{two-read, three-read, six-read, only-read, itself, ready-reads, absent-reads}
 use Rattle.network.proofs.Theory.State.{Net, Sound, entryIn, targetIn}
 use Rattle.network.proofs.Lists.Tables.{netOf, stateOf}
 
--- the ends of a message's way are the theory's, by definition
+-- the ends of a message's way are the theory's
 
-pub entry-in : (σ : Network) (f : Phase) (k : ℕ) → entryOf (channel σ k) f ≡ entryIn (netOf σ) f k
-entry-in σ f k = refl
+pub entry-in : (σ : Network) (f : Phase) (k : ℕ) → entryOf (channel σ (channelNo k)) f .0 ≡ entryIn (netOf σ) f k
+entry-in σ f k = end-number f _ _
 
-pub target-in : (σ : Network) (f : Phase) (k : ℕ) → targetOf (channel σ k) f ≡ targetIn (netOf σ) f k
-target-in σ f k = refl
+pub target-in : (σ : Network) (f : Phase) (k : ℕ) → targetOf (channel σ (channelNo k)) f .0 ≡ targetIn (netOf σ) f k
+target-in σ f k = end-number f _ _
 
 -- where channel k may stand
 
 abbrev pub BufferFits : Network → ℕ → ℕ → Type 0
 BufferFits σ p k =
     (k < channelCount σ)
-    × (hops (nodeCount σ) p (targetIn (netOf σ) (channel σ k .phase) k)
-    ≤ hops (nodeCount σ) (entryIn (netOf σ) (channel σ k .phase) k) (targetIn (netOf σ) (channel σ k .phase) k))
+    × (hops (nodeCount σ) p (targetIn (netOf σ) (channel σ (channelNo k) .phase) k)
+    ≤ hops (nodeCount σ) (entryIn (netOf σ) (channel σ (channelNo k) .phase) k) (targetIn (netOf σ) (channel σ (channelNo k) .phase) k))
 
 abbrev pub LineFits : Network → ℕ → ℕ → Type 0
-LineFits σ p k = (k < channelCount σ) × (p ≡ entryIn (netOf σ) (channel σ k .phase) k)
+LineFits σ p k = (k < channelCount σ) × (p ≡ entryIn (netOf σ) (channel σ (channelNo k) .phase) k)
 
-buffer-reads : (σ : Network) (p k : ℕ) → (bufferFits σ p k ≡ true) ↔ BufferFits σ p k
-buffer-reads σ p k = two-read (ltb-reads _ _) (leb-reads _ _)
+buffer-reads : (σ : Network) (p k : ℕ) → (bufferFits σ (nodeNo p) (channelNo k) ≡ true) ↔ BufferFits σ p k
+buffer-reads σ p k =
+    let f = channel σ (channelNo k) .phase in
+    rw (← entry-in σ f k, ← target-in σ f k) (two-read (ltb-reads _ _) (leb-reads _ _))
 
-line-reads : (σ : Network) (p k : ℕ) → (lineFits σ p k ≡ true) ↔ LineFits σ p k
-line-reads σ p k = two-read (ltb-reads _ _) (eqb-reads _ _)
+line-reads : (σ : Network) (p k : ℕ) → (lineFits σ (nodeNo p) (channelNo k) ≡ true) ↔ LineFits σ p k
+line-reads σ p k = rw (← entry-in σ (channel σ (channelNo k) .phase) k) (two-read (ltb-reads _ _) (eqb-reads _ _))
 
 -- a sound node
 
 pub record NodeFacts (L : Limits) (σ : Network) (p : ℕ) : Type 0 where
-  pub some-slot : 1 ≤ node σ p .slots
-  pub slot-limit : node σ p .slots ≤ L .slots
-  pub fits : length (node σ p .buffer) ≤ node σ p .slots
-  pub in-buffer : (k : ℕ) → 0 < count k (node σ p .buffer) → BufferFits σ p k
-  pub in-line : (k : ℕ) → 0 < count k (node σ p .line) → LineFits σ p k
-  pub marked : node σ p .mark ≡ true → occupied (node σ p .line) ≡ true
+  pub some-slot : 1 ≤ node σ (nodeNo p) .slots
+  pub slot-limit : node σ (nodeNo p) .slots ≤ L .slots
+  pub fits : length (node σ (nodeNo p) .buffer) ≤ node σ (nodeNo p) .slots
+  pub in-buffer : (k : ℕ) → 0 < timesIn (node σ (nodeNo p) .buffer) (channelNo k) → BufferFits σ p k
+  pub in-line : (k : ℕ) → 0 < timesIn (node σ (nodeNo p) .line) (channelNo k) → LineFits σ p k
+  pub marked : node σ (nodeNo p) .mark ≡ true → occupied (node σ (nodeNo p) .line) ≡ true
 
-node-reads : (L : Limits) (σ : Network) (p : ℕ) → (soundNode L σ p ≡ true) ↔ NodeFacts L σ p
+node-reads : (L : Limits) (σ : Network) (p : ℕ) → (soundNode L σ (nodeNo p) ≡ true) ↔ NodeFacts L σ p
 unfolding soundNode
 node-reads L σ p =
-    let r = six-read (leb-reads 1 _) (leb-reads _ _) (leb-reads _ _) (each-of (node σ p .buffer) (buffer-reads σ p))
-    (each-of (node σ p .line) (line-reads σ p)) (only-read itself itself) in (
+    let r = six-read (leb-reads 1 _) (leb-reads _ _) (leb-reads _ _) (each-of (node σ (nodeNo p) .buffer) (λ k. buffer-reads σ p (k .0)))
+    (each-of (node σ (nodeNo p) .line) (λ k. line-reads σ p (k .0))) (only-read itself itself) in (
       λ e. let h = r .0 e in
           record { some-slot = h .0; slot-limit = h .1; fits = h .2; in-buffer = h .3; in-line = h .4; marked = h .5 },
       λ h. r .1 (h .some-slot, h .slot-limit, h .fits, h .in-buffer, h .in-line, h .marked),
@@ -64,18 +67,18 @@ node-reads L σ p =
 -- a sound channel
 
 pub record ChannelFacts (σ : Network) (k : ℕ) : Type 0 where
-  pub sender-below : channel σ k .sender < nodeCount σ
-  pub receiver-below : channel σ k .receiver < nodeCount σ
-  pub once : timesOn σ k ≡ one (moving (channel σ k .phase))
-  pub ready-bare : channel σ k .phase ≡ ready → channel σ k .offer ≡ none
-  pub good-offer : goodOffer (channel σ k .offer) ≡ true
-  pub good-carried : goodCarried (channel σ k .phase) ≡ true
+  pub sender-below : channel σ (channelNo k) .sender .0 < nodeCount σ
+  pub receiver-below : channel σ (channelNo k) .receiver .0 < nodeCount σ
+  pub once : timesOn σ (channelNo k) ≡ one (moving (channel σ (channelNo k) .phase))
+  pub ready-bare : channel σ (channelNo k) .phase ≡ ready → channel σ (channelNo k) .offer ≡ none
+  pub good-offer : goodOffer (channel σ (channelNo k) .offer) ≡ true
+  pub good-carried : goodCarried (channel σ (channelNo k) .phase) ≡ true
 
-channel-reads : (σ : Network) (k : ℕ) → (soundChannel σ k ≡ true) ↔ ChannelFacts σ k
+channel-reads : (σ : Network) (k : ℕ) → (soundChannel σ (channelNo k) ≡ true) ↔ ChannelFacts σ k
 unfolding soundChannel
 channel-reads σ k =
     let r = six-read (ltb-reads _ _) (ltb-reads _ _) (eqb-reads _ _)
-    (only-read (ready-reads (channel σ k .phase)) (absent-reads (channel σ k .offer))) itself itself in (
+    (only-read (ready-reads (channel σ (channelNo k) .phase)) (absent-reads (channel σ (channelNo k) .offer))) itself itself in (
       λ e. let h = r .0 e in
           record { sender-below = h .0; receiver-below = h .1; once = h .2; ready-bare = h .3; good-offer = h .4; good-carried = h .5 },
       λ h. r .1 (h .sender-below, h .receiver-below, h .once, h .ready-bare, h .good-offer, h .good-carried),
@@ -146,11 +149,11 @@ module _ (L : Limits) (σ : Network) where
           sender-below = λ k l. h .each-channel k l .sender-below;
           receiver-below = λ k l. h .each-channel k l .receiver-below;
           some-slot = λ p l. h .each-node p l .some-slot;
-          fits = λ p l. h .each-node p l .fits;
+          fits = λ p l. rw length-numbers (h .each-node p l .fits);
           once = λ k l. h .each-channel k l .once;
           in-buffer = λ p l. h .each-node p l .in-buffer;
           in-line = λ p l. h .each-node p l .in-line;
-          marked = λ p l. h .each-node p l .marked;
+          marked = λ p l. rw occupied-numbers (h .each-node p l .marked);
           ready-bare = λ k l. h .each-channel k l .ready-bare;
           good-offer = λ k l. h .each-channel k l .good-offer;
           good-carried = λ k l. h .each-channel k l .good-carried;
@@ -171,10 +174,10 @@ module _ (L : Limits) (σ : Network) where
         each-node = λ p l. record {
           some-slot = t .some-slot p l;
           slot-limit = w .slot-limit p l;
-          fits = t .fits p l;
+          fits = rw length-numbers at (t .fits p l);
           in-buffer = t .in-buffer p l;
           in-line = t .in-line p l;
-          marked = t .marked p l;
+          marked = rw occupied-numbers at (t .marked p l);
         };
         each-channel = λ k l. record {
           sender-below = t .sender-below k l;

@@ -1,11 +1,11 @@
 -- Lists. How laws about calls are stated: `After` says what holds wherever a call is accepted, and goes by the order of the call's
 -- refusals, so that a law sees only the rings that pass them all. `Silent` is a call that the account of a run does not see. Assumes
 -- nothing.
-use Prim.Native.Nat.{ℕ}
 use mathlib.Core.Path.{_≡_, refl}
 use mathlib.Core.Bool.{Bool, true, false}
 use mathlib.Core.List.{[]}
 use Rattle.refusal.specs.declared.Refusal.{Refusal}
+use Rattle.numbers.specs.declared.ChannelNo.{ChannelNo}
 use Rattle.batch.specs.declared.Verdict.{Verdict}
 use Rattle.batch.specs.declared.Verdict.the-variants.{Good, Refused}
 use Rattle.network.specs.Network.{Network}
@@ -47,9 +47,9 @@ go-on b r o met next = rw met next
 -- a call that is not counted, takes no record in and hands none out
 pub record Silent (a : Call) (e : Event) : Type 0 where
   pub uncounted : counts a ≡ false
-  pub none-sent : (k : ℕ) → sentOn k a ≡ []
-  pub none-handed : (k : ℕ) → handedOn k e ≡ []
+  pub none-sent : (k : ChannelNo) → sentOn k a ≡ []
+  pub none-handed : (k : ChannelNo) → handedOn k e ≡ []
 
 pub silent : {a : Call} {e : Event} →
-    counts a ≡ false → ((k : ℕ) → sentOn k a ≡ []) → ((k : ℕ) → handedOn k e ≡ []) → Silent a e
+    counts a ≡ false → ((k : ChannelNo) → sentOn k a ≡ []) → ((k : ChannelNo) → handedOn k e ≡ []) → Silent a e
 silent c s d = record { uncounted = c; none-sent = s; none-handed = d }

@@ -3,15 +3,18 @@
 -- changes, and leaves `netOf` as it is. Assumes nothing.
 use Prim.Native.Nat.{ℕ, _<_}
 use mathlib.Core.Path.{_≡_, refl, sym, ap, fun-ext, subst, _∙_}
-use mathlib.Core.Bool.{Bool, false}
+use mathlib.Core.Bool.{Bool, false, _||_}
 use mathlib.Core.List.{List, [], _∷_, _++_}
 use mathlib.Core.Option.{Option}
 use lib.ListN.{length, getD, set, length-set}
 use lib.Seq.{getD-set-same, getD-set-other}
 use Rattle.batch.specs.declared.BatchRecord.{BatchRecord}
-use Rattle.network.specs.Network.{Network, Phase, nodeCount, channelCount, node, channel, withNode, withChannel, withDeliveries, noNode, noChannel}
+use Rattle.numbers.specs.declared.NodeNo.{NodeNo}
+use Rattle.numbers.specs.declared.ChannelNo.{ChannelNo}
+use Rattle.network.specs.Network.{Network, Phase, nodeNo, channelNo, numbersOf, nodeCount, channelCount, node, channel, withNode, withChannel, withDeliveries, noNode, noChannel}
 use Rattle.network.specs.Calls
 use Rattle.network.proofs.Ground.Splits.{by-same}
+use Rattle.network.proofs.Ground.Numbers.{numbers-snoc, occupied-numbers}
 use Rattle.network.proofs.Theory.State.{upd, upd-same, upd-other, upd-at, Net, State, state, turn, join, pop, push, pass}
 
 abbrev net : ℕ → ℕ → (ℕ → ℕ) → (ℕ → ℕ) → (ℕ → ℕ) → Net
@@ -20,18 +23,18 @@ net n c b s r = record { n = n; c = c; slots = b; sender = s; receiver = r }
 abbrev pub netOf : Network → Net
 netOf σ =
     net (nodeCount σ) (channelCount σ)
-    (λ p. node σ p .slots)
-    (λ k. channel σ k .sender)
-    (λ k. channel σ k .receiver)
+    (λ p. node σ (nodeNo p) .slots)
+    (λ k. channel σ (channelNo k) .sender .0)
+    (λ k. channel σ (channelNo k) .receiver .0)
 
 abbrev pub stateOf : Network → State
 stateOf σ =
     state
-    (λ p. node σ p .buffer)
-    (λ p. node σ p .line)
-    (λ p. node σ p .mark)
-    (λ k. channel σ k .phase)
-    (λ k. channel σ k .offer)
+    (λ p. numbersOf (node σ (nodeNo p) .buffer))
+    (λ p. numbersOf (node σ (nodeNo p) .line))
+    (λ p. node σ (nodeNo p) .mark)
+    (λ k. channel σ (channelNo k) .phase)
+    (λ k. channel σ (channelNo k) .offer)
 
 -- an update with what stands there changes nothing
 pub upd-alike {ℓ} : {A : Type ℓ} (p : ℕ) (f : ℕ → A) → upd p (f p) f ≡ f
@@ -86,47 +89,55 @@ still-node b q l = subst (λ N. q < N .n) (sym (b .same-net)) l
 
 -- the changes that calls make of a channel and of a node are the theory's
 
-pub turned : (σ : Network) (k : ℕ) (f : Phase) (o : Option BatchRecord) → k < channelCount σ →
-    Becomes σ (withChannel k f o σ) (turn k f o (stateOf σ))
+pub turned : (σ : Network) (k : ChannelNo) (f : Phase) (o : Option BatchRecord) → k .0 < channelCount σ →
+    Becomes σ (withChannel k f o σ) (turn (k .0) f o (stateOf σ))
 turned σ k f o l =
     record {
       tables =
           same-state refl refl refl
-          (set-table (λ s. s .phase) (σ .channels) k _ noChannel l)
-          (set-table (λ s. s .offer) (σ .channels) k _ noChannel l);
+          (set-table (λ s. s .phase) (σ .channels) (k .0) _ noChannel l)
+          (set-table (λ s. s .offer) (σ .channels) (k .0) _ noChannel l);
       same-net =
-          same-net refl (length-set (σ .channels) k _) refl
-          (set-alike (λ s. s .sender) (σ .channels) k _ noChannel l refl)
-          (set-alike (λ s. s .receiver) (σ .channels) k _ noChannel l refl);
+          same-net refl (length-set (σ .channels) (k .0) _) refl
+          (set-alike (λ s. s .sender .0) (σ .channels) (k .0) _ noChannel l refl)
+          (set-alike (λ s. s .receiver .0) (σ .channels) (k .0) _ noChannel l refl);
       same-start = refl;
     }
 
-module _ (σ : Network) (p : ℕ) (l : p < nodeCount σ) where
+module _ (σ : Network) (p : NodeNo) (l : p .0 < nodeCount σ) where
   -- at the buffer b, the line y and the mark m that the theory has after the change
-  changed : (xs ys : List ℕ) (m : Bool) {b y : ℕ → List ℕ} {t : ℕ → Bool} →
-      upd p xs (stateOf σ .buffer) ≡ b → upd p ys (stateOf σ .line) ≡ y → upd p m (stateOf σ .mark) ≡ t →
+  changed : (xs ys : List ChannelNo) (m : Bool) {b y : ℕ → List ℕ} {t : ℕ → Bool} →
+      upd (p .0) (numbersOf xs) (stateOf σ .buffer) ≡ b → upd (p .0) (numbersOf ys) (stateOf σ .line) ≡ y →
+      upd (p .0) m (stateOf σ .mark) ≡ t →
       Becomes σ (withNode p xs ys m σ) (state b y t (stateOf σ .phase) (stateOf σ .offer))
   changed xs ys m eb ey et =
       record {
         tables =
             same-state
-            (set-table (λ s. s .buffer) (σ .nodes) p _ noNode l ∙ eb)
-            (set-table (λ s. s .line) (σ .nodes) p _ noNode l ∙ ey)
-            (set-table (λ s. s .mark) (σ .nodes) p _ noNode l ∙ et)
+            (set-table (λ s. numbersOf (s .buffer)) (σ .nodes) (p .0) _ noNode l ∙ eb)
+            (set-table (λ s. numbersOf (s .line)) (σ .nodes) (p .0) _ noNode l ∙ ey)
+            (set-table (λ s. s .mark) (σ .nodes) (p .0) _ noNode l ∙ et)
             refl refl;
-        same-net = same-net (length-set (σ .nodes) p _) refl (set-alike (λ s. s .slots) (σ .nodes) p _ noNode l refl) refl refl;
+        same-net = same-net (length-set (σ .nodes) (p .0) _) refl (set-alike (λ s. s .slots) (σ .nodes) (p .0) _ noNode l refl) refl refl;
         same-start = refl;
       }
 
-  pub joined : (k : ℕ) → Becomes σ (Calls.joinLine p k σ) (join p k (stateOf σ))
-  joined k = changed _ _ _ (upd-alike p _) refl (upd-alike p _)
+  -- one more at the end of a queue
+  longer : (ks : List ChannelNo) (k : ChannelNo) (t : ℕ → List ℕ) →
+      upd (p .0) (numbersOf (ks ++ (k ∷ []))) t ≡ upd (p .0) (numbersOf ks ++ (k .0 ∷ [])) t
+  longer ks k t = ap (λ js. upd (p .0) js t) (numbers-snoc ks k)
 
-  pub popped : (ks : List ℕ) → Becomes σ (Calls.leave p ks σ) (pop p ks (stateOf σ))
-  popped ks = changed _ _ _ refl (upd-alike p _) (upd-alike p _)
+  pub joined : (k : ChannelNo) → Becomes σ (Calls.joinLine p k σ) (join (p .0) (k .0) (stateOf σ))
+  joined k = changed _ _ _ (upd-alike (p .0) _) (longer (node σ p .line) k _) (upd-alike (p .0) _)
 
-  pub passed : (k : ℕ) → Becomes σ (Calls.pass p k σ) (pass p k (stateOf σ))
-  passed k = changed _ _ _ refl (upd-alike p _) refl
+  pub popped : (ks : List ChannelNo) → Becomes σ (Calls.leave p ks σ) (pop (p .0) (numbersOf ks) (stateOf σ))
+  popped ks = changed _ _ _ refl (upd-alike (p .0) _) (upd-alike (p .0) _)
 
-  pub pushed : (k : ℕ) (ks : List ℕ) →
-      Becomes σ (withNode p (node σ p .buffer ++ (k ∷ [])) ks false σ) (push p k ks (stateOf σ))
-  pushed k ks = changed _ _ _ refl refl refl
+  pub passed : (k : ChannelNo) → Becomes σ (Calls.pass p k σ) (pass (p .0) (k .0) (stateOf σ))
+  passed k =
+      changed _ _ _ (longer (node σ p .buffer) k _) (upd-alike (p .0) _)
+      (ap (λ b. upd (p .0) (node σ p .mark || b) (stateOf σ .mark)) (sym (occupied-numbers (node σ p .line))))
+
+  pub pushed : (k : ChannelNo) (ks : List ChannelNo) →
+      Becomes σ (withNode p (node σ p .buffer ++ (k ∷ [])) ks false σ) (push (p .0) (k .0) (numbersOf ks) (stateOf σ))
+  pushed k ks = changed _ _ _ (longer (node σ p .buffer) k _) refl refl

@@ -9,9 +9,10 @@ use lib.Dec.{eqb}
 use borrow.Author.Tests.{eq-eqb, ne-eqb, leb-true, le-leb}
 use Rattle.hops.specs.Hops.{hops, next}
 use Rattle.hops.proofs.Laws.{hops-cases, hops-from-one, hops-to-n, hops-next, hops-step, next-below}
-use Rattle.network.specs.Counting.{one, count}
-use Rattle.network.specs.Network.{nodeCount, channelCount, entry, target}
-use Rattle.network.specs.Way.{upToBefore, WayIsHops}
+use Rattle.numbers.specs.declared.NodeNo.{NodeNo}
+use Rattle.network.specs.Counting.{one}
+use Rattle.network.specs.Network.{nodeNo, nodeCount, channelCount, entry, target}
+use Rattle.network.specs.Way.{upToBefore, timesAmong, WayIsHops}
 use Rattle.network.proofs.Ground.Splits.{by-same}
 use Rattle.network.proofs.Ground.Tests.{ltb-reads}
 use Rattle.network.proofs.Ground.Joined.{two-read}
@@ -29,14 +30,14 @@ module _ (n t : ℕ) (lt : t < n) where
       (hops-cases n p t lp lt)
 
   module _ (p : ℕ) (lp : p < n) where
-    abbrev OnWay : List ℕ → Type 0
-    OnWay xs = 0 < count p xs
+    abbrev OnWay : List NodeNo → Type 0
+    OnWay way = 0 < timesAmong way (nodeNo p)
 
     -- a way begins with node q, and the others on it are those within h hops of the target
-    begins : (q h : ℕ) (rest : List ℕ) → q < n → hops n q t ≡ suc h → (OnWay rest) ↔ (hops n p t ≤ h) →
-        (OnWay (q ∷ rest)) ↔ (hops n p t ≤ hops n q t)
+    begins : (q h : ℕ) (rest : List NodeNo) → q < n → hops n q t ≡ suc h → (OnWay rest) ↔ (hops n p t ≤ h) →
+        (OnWay (nodeNo q ∷ rest)) ↔ (hops n p t ≤ hops n q t)
     begins q h rest lq e within =
-        let first : count p (q ∷ rest) ≡ one (eqb q p) + count p rest = count-cons p q rest in
+        let first : timesAmong (nodeNo q ∷ rest) (nodeNo p) ≡ one (eqb q p) + timesAmong rest (nodeNo p) = count-cons p q _ in
         by-same q p
         (λ same. let counted : one (eqb q p) ≡ 1 = rw same (count-same p) in (λ on. rw same (omega arith), λ near. omega arith))
         (λ d.
@@ -45,7 +46,7 @@ module _ (n t : ℕ) (lt : t < n) where
           λ near. omega (arith, within .1 (omega arith)),
         ))
 
-    on-way : (most q : ℕ) → q < n → hops n q t ≤ most → (OnWay (upToBefore n t most q)) ↔ (hops n p t ≤ hops n q t)
+    on-way : (most q : ℕ) → q < n → hops n q t ≤ most → (OnWay (upToBefore n (nodeNo t) most (nodeNo q))) ↔ (hops n p t ≤ hops n q t)
     on-way zero q lq l = absurd (omega (arith, hops-from-one n q t lq lt))
     on-way (suc most) q lq l =
         let lr : next n q < n = next-below n q lq in
@@ -55,10 +56,10 @@ module _ (n t : ℕ) (lt : t < n) where
         (λ on. absurd (omega (arith, weigh-none (λ x. one (eqb x p)))), λ near. absurd (omega (arith, hops-from-one n p t lp lt)))))
         (λ more. rw (ne-eqb (next n q) t more)
         (let nearer : hops n q t ≡ suc (hops n (next n q) t) = hops-step n q t lq lt more in
-        begins q (hops n (next n q) t) (upToBefore n t most (next n q)) lq nearer (on-way most (next n q) lr (omega arith))))
+        begins q (hops n (next n q) t) (upToBefore n (nodeNo t) most (nodeNo (next n q))) lq nearer (on-way most (next n q) lr (omega arith))))
 
 pub way-is-hops : WayIsHops
 way-is-hops σ p k lp le lt =
     let n : ℕ = nodeCount σ in
-    let way = on-way n (target σ k) lt p lp n (entry σ k) le (hops-to-n n (entry σ k) (target σ k) le lt) in
-    two-read (ltb-reads k (channelCount σ)) (λ near. way .1 (leb-true _ _ near), λ on. le-leb _ _ (way .0 on))
+    let way = on-way n (target σ k .0) lt (p .0) lp n (entry σ k .0) le (hops-to-n n (entry σ k .0) (target σ k .0) le lt) in
+    two-read (ltb-reads (k .0) (channelCount σ)) (λ near. way .1 (leb-true _ _ near), λ on. le-leb _ _ (way .0 on))

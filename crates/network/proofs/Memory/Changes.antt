@@ -9,11 +9,13 @@ use native.Mathlib.Omega.{arith}
 use lib.ListN.{length, getD, set, length-append, length-set, List·getD-append, List·getD-eq-default}
 use lib.Seq.{getD-set-same, getD-set-other, getD-append-seam}
 use Rattle.batch.specs.declared.BatchRecord.{BatchRecord}
+use Rattle.numbers.specs.declared.NodeNo.{NodeNo}
+use Rattle.numbers.specs.declared.ChannelNo.{ChannelNo}
 use Rattle.wire.specs.Record.{recordLength}
 use Rattle.network.specs.declared.Ring.{Ring}
 use Rattle.network.specs.declared.Head.{Head}
 use Rattle.network.specs.Counting.{one, tabulate}
-use Rattle.network.specs.Network.{Network, NodeState, ChannelState, Phase, resting, nodeCount, channelCount, noNode, noChannel, node, channel, withNode, withChannel, withNewNode, withNewChannel, withStarted}
+use Rattle.network.specs.Network.{Network, NodeState, ChannelState, Phase, resting, nodeNo, channelNo, nodeCount, channelCount, noNode, noChannel, node, channel, withNode, withChannel, withNewNode, withNewChannel, withStarted}
 use Rattle.network.specs.Layout.{nodeRoom, channelRoom, rowLength, rows, cellsOf, phaseCode, offeredFlag, offerBytes, carriedBytes, holdHead, hold, headOf, withNodes, withChannels, ringIn}
 use Rattle.network.proofs.Ground.Splits.{by-same, by-less}
 use Rattle.network.proofs.Memory.Rows.{tabulate-same, tabulate-put, rows-same, rows-put, putRow, getD-snoc-same}
@@ -84,9 +86,9 @@ module _ {ℓ} {A : Type ℓ} (nothing : A) (n : ℕ) (xs : List A) where
 module _ (σ : Network) (fits : Fits σ) where
   -- one node is another with the same slots
 
-  module _ (p : ℕ) (xs ys : List ℕ) (m : Bool) (l : p < nodeCount σ) where
+  module _ (p : ℕ) (xs ys : List ChannelNo) (m : Bool) (l : p < nodeCount σ) where
     abbrev another : NodeState
-    another = record { slots = node σ p .slots; buffer = xs; line = ys; mark = m }
+    another = record { slots = node σ (nodeNo p) .slots; buffer = xs; line = ys; mark = m }
 
     pub hold-with-node : {u w t slots lines : List ℕ} →
         numbers noNode nodeRoom (σ .nodes) (λ s. length (s .buffer)) (set (σ .nodes) p another) ≡ u →
@@ -94,7 +96,7 @@ module _ (σ : Network) (fits : Fits σ) where
         numbers noNode nodeRoom (σ .nodes) (λ s. one (s .mark)) (set (σ .nodes) p another) ≡ t →
         cells noNode nodeRoom (σ .nodes) rowLength (λ s. cellsOf (s .buffer)) (set (σ .nodes) p another) ≡ slots →
         cells noNode nodeRoom (σ .nodes) rowLength (λ s. cellsOf (s .line)) (set (σ .nodes) p another) ≡ lines →
-        hold (withNode p xs ys m σ) ≡ ringIn (withNodes (hold σ .head) u w t) slots lines (hold σ .offers) (hold σ .carried)
+        hold (withNode (nodeNo p) xs ys m σ) ≡ ringIn (withNodes (hold σ .head) u w t) slots lines (hold σ .offers) (hold σ .carried)
     unfolding hold holdHead
     hold-with-node eu ew et es el =
         λ i.
@@ -105,7 +107,7 @@ module _ (σ : Network) (fits : Fits σ) where
         (hold σ .head .senders) (hold σ .head .receivers) (hold σ .head .phases) (hold σ .head .offered))
         (es i) (el i) (hold σ .offers) (hold σ .carried)
 
-    pub fits-with-node : length xs ≤ rowLength → length ys ≤ rowLength → Fits (withNode p xs ys m σ)
+    pub fits-with-node : length xs ≤ rowLength → length ys ≤ rowLength → Fits (withNode (nodeNo p) xs ys m σ)
     fits-with-node lx ly =
         record {
           nodes-fit = rw (length-set (σ .nodes) p another) (fits .nodes-fit);
@@ -120,26 +122,27 @@ module _ (σ : Network) (fits : Fits σ) where
 
   module _ (k : ℕ) (f : Phase) (o : Option BatchRecord) (l : k < channelCount σ) where
     abbrev other : ChannelState
-    other = record { sender = channel σ k .sender; receiver = channel σ k .receiver; phase = f; offer = o }
+    other = record { sender = channel σ (channelNo k) .sender; receiver = channel σ (channelNo k) .receiver; phase = f; offer = o }
 
     pub hold-with-channel : {phases offered offers carried : List ℕ} →
         numbers noChannel channelRoom (σ .channels) (λ s. phaseCode (s .phase)) (set (σ .channels) k other) ≡ phases →
         numbers noChannel channelRoom (σ .channels) (λ s. offeredFlag (s .offer)) (set (σ .channels) k other) ≡ offered →
         cells noChannel channelRoom (σ .channels) recordLength (λ s. offerBytes (s .offer)) (set (σ .channels) k other) ≡ offers →
         cells noChannel channelRoom (σ .channels) recordLength (λ s. carriedBytes (s .phase)) (set (σ .channels) k other) ≡ carried →
-        hold (withChannel k f o σ) ≡ ringIn (withChannels (hold σ .head) phases offered) (hold σ .slots) (hold σ .lines) offers carried
+        hold (withChannel (channelNo k) f o σ)
+        ≡ ringIn (withChannels (hold σ .head) phases offered) (hold σ .slots) (hold σ .lines) offers carried
     unfolding hold holdHead
     hold-with-channel ep eo ef ec =
         λ i.
         ringIn
         (headOf (σ .deliveries) (one (σ .started)) (nodeCount σ) (length-set (σ .channels) k other i) 0
         (hold σ .head .capacity) (hold σ .head .used) (hold σ .head .waiting) (hold σ .head .marks)
-        (numbers-left noChannel channelRoom (σ .channels) k other l (λ s. s .sender) refl i)
-        (numbers-left noChannel channelRoom (σ .channels) k other l (λ s. s .receiver) refl i)
+        (numbers-left noChannel channelRoom (σ .channels) k other l (λ s. s .sender .0) refl i)
+        (numbers-left noChannel channelRoom (σ .channels) k other l (λ s. s .receiver .0) refl i)
         (ep i) (eo i))
         (hold σ .slots) (hold σ .lines) (ef i) (ec i)
 
-    pub fits-with-channel : OfferFits o → CarriedFits f → Fits (withChannel k f o σ)
+    pub fits-with-channel : OfferFits o → CarriedFits f → Fits (withChannel (channelNo k) f o σ)
     fits-with-channel fo ff =
         record {
           nodes-fit = fits .nodes-fit;
@@ -184,12 +187,12 @@ module _ (σ : Network) where
       (cells-snoc-left noNode nodeRoom ns s rowLength (λ t. cellsOf (t .line)) refl i)
       (hold σ .offers) (hold σ .carried)
 
-  pub hold-with-new-channel : (sender receiver : ℕ) → channelCount σ < channelRoom →
+  pub hold-with-new-channel : (sender receiver : NodeNo) → channelCount σ < channelRoom →
       hold (withNewChannel sender receiver σ)
       ≡ withHead (hold σ)
       (planned (hold σ .head) (hold σ .head .started) (nodeCount σ) (channelCount σ + 1) (hold σ .head .capacity)
-      (set (hold σ .head .senders) (channelCount σ) sender)
-      (set (hold σ .head .receivers) (channelCount σ) receiver))
+      (set (hold σ .head .senders) (channelCount σ) (sender .0))
+      (set (hold σ .head .receivers) (channelCount σ) (receiver .0)))
   unfolding hold holdHead
   hold-with-new-channel sender receiver l =
       let s : ChannelState = record { sender = sender; receiver = receiver; phase = resting; offer = none } in
@@ -198,8 +201,8 @@ module _ (σ : Network) where
       ringIn
       (headOf (σ .deliveries) (one (σ .started)) (nodeCount σ) (length-append cs (s ∷ []) i) 0
       (hold σ .head .capacity) (hold σ .head .used) (hold σ .head .waiting) (hold σ .head .marks)
-      (numbers-snoc noChannel channelRoom cs s (λ t. t .sender) l i)
-      (numbers-snoc noChannel channelRoom cs s (λ t. t .receiver) l i)
+      (numbers-snoc noChannel channelRoom cs s (λ t. t .sender .0) l i)
+      (numbers-snoc noChannel channelRoom cs s (λ t. t .receiver .0) l i)
       (numbers-snoc-left noChannel channelRoom cs s (λ t. phaseCode (t .phase)) refl i)
       (numbers-snoc-left noChannel channelRoom cs s (λ t. offeredFlag (t .offer)) refl i))
       (hold σ .slots) (hold σ .lines)

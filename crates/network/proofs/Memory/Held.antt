@@ -17,13 +17,14 @@ use Rattle.wire.proofs.Record.{record-reads-back, length-record}
 use Rattle.wire.proofs.Good.{good-fits}
 use Rattle.network.specs.declared.Ring.{Ring}
 use Rattle.network.specs.declared.Head.{Head}
-use Rattle.network.specs.Counting.{one, sum, count, tabulate}
-use Rattle.network.specs.Network.{Network, NodeState, ChannelState, Phase, resting, asking, ready, answering, ringOf, fresh, nodeCount, channelCount, noNode, noChannel, node, channel, moving, timesOn}
+use Rattle.network.specs.Counting.{one, sum, tabulate}
+use Rattle.network.specs.Network.{Network, NodeState, ChannelState, Phase, resting, asking, ready, answering, ringOf, fresh, nodeNo, channelNo, numbersOf, timesIn, nodeCount, channelCount, noNode, noChannel, node, channel, moving, timesOn}
 use Rattle.network.specs.Sound.{goodOffer, goodCarried}
 use Rattle.network.specs.Sound
 use Rattle.network.specs.Layout.{ringLimits, nodeRoom, channelRoom, rowLength, cellRoom, recordRoom, row, padded, rows, cellsOf, phaseCode, phaseOf, offeredFlag, offerOf, viewNode, viewChannel, view, offerBytes, carriedBytes, byNode, byChannel, headOf, ringIn, holdHead, hold, freshRing, same, sameHead, sameRing, laidOut, soundRing}
 use Rattle.network.proofs.Ground.Counting.{sum-le, sum-term, sum-ones, length-counts, one-most}
 use Rattle.network.proofs.Ground.Splits.{and-both, both-so}
+use Rattle.network.proofs.Ground.Numbers.{length-numbers}
 use Rattle.network.proofs.Ground.Tests.{reads, and-reads}
 use Rattle.network.proofs.Lists.Clauses.{Facts, facts}
 use Rattle.network.proofs.Memory.Rows.{padded-whole, getD-tabulate, tabulate-is, queue-cells, rows-length, row-rows}
@@ -43,28 +44,28 @@ CarriedFits (answering x) = RecordFits x
 pub record Fits (σ : Network) : Type 0 where
   pub nodes-fit : nodeCount σ ≤ nodeRoom
   pub channels-fit : channelCount σ ≤ channelRoom
-  pub buffer-fits : (p : ℕ) → p < nodeCount σ → length (node σ p .buffer) ≤ rowLength
-  pub line-fits : (p : ℕ) → p < nodeCount σ → length (node σ p .line) ≤ rowLength
-  pub offer-fits : (k : ℕ) → k < channelCount σ → OfferFits (channel σ k .offer)
-  pub carried-fits : (k : ℕ) → k < channelCount σ → CarriedFits (channel σ k .phase)
+  pub buffer-fits : (p : ℕ) → p < nodeCount σ → length (node σ (nodeNo p) .buffer) ≤ rowLength
+  pub line-fits : (p : ℕ) → p < nodeCount σ → length (node σ (nodeNo p) .line) ≤ rowLength
+  pub offer-fits : (k : ℕ) → k < channelCount σ → OfferFits (channel σ (channelNo k) .offer)
+  pub carried-fits : (k : ℕ) → k < channelCount σ → CarriedFits (channel σ (channelNo k) .phase)
 
 -- what stands in the arrays of a ring in memory that holds σ
 
 pub record HeldNode (ring : Ring) (σ : Network) (p : ℕ) : Type 0 where
-  pub capacity : getD (ring .head .capacity) p 0 ≡ node σ p .slots
-  pub used : getD (ring .head .used) p 0 ≡ length (node σ p .buffer)
-  pub waiting : getD (ring .head .waiting) p 0 ≡ length (node σ p .line)
-  pub mark : getD (ring .head .marks) p 0 ≡ one (node σ p .mark)
-  pub buffer-row : row rowLength (ring .slots) p ≡ padded rowLength (cellsOf (node σ p .buffer))
-  pub line-row : row rowLength (ring .lines) p ≡ padded rowLength (cellsOf (node σ p .line))
+  pub capacity : getD (ring .head .capacity) p 0 ≡ node σ (nodeNo p) .slots
+  pub used : getD (ring .head .used) p 0 ≡ length (node σ (nodeNo p) .buffer)
+  pub waiting : getD (ring .head .waiting) p 0 ≡ length (node σ (nodeNo p) .line)
+  pub mark : getD (ring .head .marks) p 0 ≡ one (node σ (nodeNo p) .mark)
+  pub buffer-row : row rowLength (ring .slots) p ≡ padded rowLength (cellsOf (node σ (nodeNo p) .buffer))
+  pub line-row : row rowLength (ring .lines) p ≡ padded rowLength (cellsOf (node σ (nodeNo p) .line))
 
 pub record HeldChannel (ring : Ring) (σ : Network) (k : ℕ) : Type 0 where
-  pub sender : getD (ring .head .senders) k 0 ≡ channel σ k .sender
-  pub receiver : getD (ring .head .receivers) k 0 ≡ channel σ k .receiver
-  pub phase : getD (ring .head .phases) k 0 ≡ phaseCode (channel σ k .phase)
-  pub offered : getD (ring .head .offered) k 0 ≡ offeredFlag (channel σ k .offer)
-  pub offer-row : row recordLength (ring .offers) k ≡ padded recordLength (offerBytes (channel σ k .offer))
-  pub carried-row : row recordLength (ring .carried) k ≡ padded recordLength (carriedBytes (channel σ k .phase))
+  pub sender : getD (ring .head .senders) k 0 ≡ channel σ (channelNo k) .sender .0
+  pub receiver : getD (ring .head .receivers) k 0 ≡ channel σ (channelNo k) .receiver .0
+  pub phase : getD (ring .head .phases) k 0 ≡ phaseCode (channel σ (channelNo k) .phase)
+  pub offered : getD (ring .head .offered) k 0 ≡ offeredFlag (channel σ (channelNo k) .offer)
+  pub offer-row : row recordLength (ring .offers) k ≡ padded recordLength (offerBytes (channel σ (channelNo k) .offer))
+  pub carried-row : row recordLength (ring .carried) k ≡ padded recordLength (carriedBytes (channel σ (channelNo k) .phase))
 
 pub record Held (ring : Ring) (σ : Network) : Type 0 where
   pub started : ring .head .started ≡ one (σ .started)
@@ -79,11 +80,11 @@ pub record Held (ring : Ring) (σ : Network) : Type 0 where
   pub carried-whole : length (ring .carried) ≡ recordRoom
 
 module _ (σ : Network) where
-  by-node : (f : NodeState → ℕ) (p : ℕ) → p < nodeRoom → getD (byNode σ f) p 0 ≡ f (node σ p)
-  by-node f p l = getD-tabulate nodeRoom (λ q. f (node σ q)) p 0 l
+  by-node : (f : NodeState → ℕ) (p : ℕ) → p < nodeRoom → getD (byNode σ f) p 0 ≡ f (node σ (nodeNo p))
+  by-node f p l = getD-tabulate nodeRoom (λ q. f (node σ (nodeNo q))) p 0 l
 
-  by-channel : (f : ChannelState → ℕ) (k : ℕ) → k < channelRoom → getD (byChannel σ f) k 0 ≡ f (channel σ k)
-  by-channel f k l = getD-tabulate channelRoom (λ j. f (channel σ j)) k 0 l
+  by-channel : (f : ChannelState → ℕ) (k : ℕ) → k < channelRoom → getD (byChannel σ f) k 0 ≡ f (channel σ (channelNo k))
+  by-channel f k l = getD-tabulate channelRoom (λ j. f (channel σ (channelNo j))) k 0 l
 
   pub held-node : (p : ℕ) → p < nodeRoom → HeldNode (hold σ) σ p
   unfolding hold holdHead
@@ -93,20 +94,20 @@ module _ (σ : Network) where
         used = by-node (λ s. length (s .buffer)) p l;
         waiting = by-node (λ s. length (s .line)) p l;
         mark = by-node (λ s. one (s .mark)) p l;
-        buffer-row = row-rows rowLength nodeRoom (λ q. cellsOf (node σ q .buffer)) p l;
-        line-row = row-rows rowLength nodeRoom (λ q. cellsOf (node σ q .line)) p l;
+        buffer-row = row-rows rowLength nodeRoom (λ q. cellsOf (node σ (nodeNo q) .buffer)) p l;
+        line-row = row-rows rowLength nodeRoom (λ q. cellsOf (node σ (nodeNo q) .line)) p l;
       }
 
   pub held-channel : (k : ℕ) → k < channelRoom → HeldChannel (hold σ) σ k
   unfolding hold holdHead
   held-channel k l =
       record {
-        sender = by-channel (λ s. s .sender) k l;
-        receiver = by-channel (λ s. s .receiver) k l;
+        sender = by-channel (λ s. s .sender .0) k l;
+        receiver = by-channel (λ s. s .receiver .0) k l;
         phase = by-channel (λ s. phaseCode (s .phase)) k l;
         offered = by-channel (λ s. offeredFlag (s .offer)) k l;
-        offer-row = row-rows recordLength channelRoom (λ j. offerBytes (channel σ j .offer)) k l;
-        carried-row = row-rows recordLength channelRoom (λ j. carriedBytes (channel σ j .phase)) k l;
+        offer-row = row-rows recordLength channelRoom (λ j. offerBytes (channel σ (channelNo j) .offer)) k l;
+        carried-row = row-rows recordLength channelRoom (λ j. carriedBytes (channel σ (channelNo j) .phase)) k l;
       }
 
   pub held : Held (hold σ) σ
@@ -119,16 +120,16 @@ module _ (σ : Network) where
         deliveries = refl;
         nodes = held-node;
         channels = held-channel;
-        slots-whole = rows-length rowLength nodeRoom (λ p. cellsOf (node σ p .buffer));
-        lines-whole = rows-length rowLength nodeRoom (λ p. cellsOf (node σ p .line));
-        offers-whole = rows-length recordLength channelRoom (λ k. offerBytes (channel σ k .offer));
-        carried-whole = rows-length recordLength channelRoom (λ k. carriedBytes (channel σ k .phase));
+        slots-whole = rows-length rowLength nodeRoom (λ p. cellsOf (node σ (nodeNo p) .buffer));
+        lines-whole = rows-length rowLength nodeRoom (λ p. cellsOf (node σ (nodeNo p) .line));
+        offers-whole = rows-length recordLength channelRoom (λ k. offerBytes (channel σ (channelNo k) .offer));
+        carried-whole = rows-length recordLength channelRoom (λ k. carriedBytes (channel σ (channelNo k) .phase));
       }
 
-  pub no-node : (p : ℕ) → nodeCount σ ≤ p → node σ p ≡ noNode
+  pub no-node : (p : ℕ) → nodeCount σ ≤ p → node σ (nodeNo p) ≡ noNode
   no-node p l = List·getD-eq-default (σ .nodes) noNode l
 
-  pub no-channel : (k : ℕ) → channelCount σ ≤ k → channel σ k ≡ noChannel
+  pub no-channel : (k : ℕ) → channelCount σ ≤ k → channel σ (channelNo k) ≡ noChannel
   no-channel k l = List·getD-eq-default (σ .channels) noChannel l
 
 -- a ring that fits is read off as it was laid out
@@ -152,18 +153,18 @@ offer-read none fit = refl
 offer-read (some x) fit = ap some (record-kept x fit)
 
 module _ (σ : Network) (fits : Fits σ) where
-  node-read : (p : ℕ) → p < nodeCount σ → viewNode (hold σ) p ≡ node σ p
+  node-read : (p : ℕ) → p < nodeCount σ → viewNode (hold σ) p ≡ node σ (nodeNo p)
   node-read p l =
       let h = held-node σ p (omega (arith, fits .nodes-fit)) in
-      let buffer = queue-cells rowLength (node σ p .buffer) (fits .buffer-fits p l) in
-      let line = queue-cells rowLength (node σ p .line) (fits .line-fits p l) in
-      rw (h .capacity, h .used, h .waiting, h .mark, h .buffer-row, h .line-row, buffer, line, flag-read (node σ p .mark))
+      let buffer = queue-cells rowLength (node σ (nodeNo p) .buffer) (fits .buffer-fits p l) in
+      let line = queue-cells rowLength (node σ (nodeNo p) .line) (fits .line-fits p l) in
+      rw (h .capacity, h .used, h .waiting, h .mark, h .buffer-row, h .line-row, buffer, line, flag-read (node σ (nodeNo p) .mark))
 
-  channel-read : (k : ℕ) → k < channelCount σ → viewChannel (hold σ) k ≡ channel σ k
+  channel-read : (k : ℕ) → k < channelCount σ → viewChannel (hold σ) k ≡ channel σ (channelNo k)
   channel-read k l =
       let h = held-channel σ k (omega (arith, fits .channels-fit)) in
-      let phase = phase-read (channel σ k .phase) (fits .carried-fits k l) in
-      let offer = offer-read (channel σ k .offer) (fits .offer-fits k l) in
+      let phase = phase-read (channel σ (channelNo k) .phase) (fits .carried-fits k l) in
+      let offer = offer-read (channel σ (channelNo k) .offer) (fits .offer-fits k l) in
       rw (h .sender, h .receiver, h .phase, h .offered, h .offer-row, h .carried-row, phase, offer)
 
   pub view-hold : view (hold σ) ≡ σ
@@ -257,18 +258,19 @@ carried-good ready e = tt
 carried-good (answering x) e = good-fits x e
 
 module _ (σ : Network) (h : Facts ringLimits σ) where
-  once : (p k : ℕ) → p < nodeCount σ → k < channelCount σ → count k (node σ p .line) ≤ 1
+  once : (p k : ℕ) → p < nodeCount σ → k < channelCount σ → timesIn (node σ (nodeNo p) .line) (channelNo k) ≤ 1
   once p k l m =
-      let here : count k (node σ p .buffer) + count k (node σ p .line) ≤ timesOn σ k =
-      sum-term (nodeCount σ) p (λ q. count k (node σ q .buffer) + count k (node σ q .line)) l in
-      omega (arith, h .each-channel k m .once, one-most (moving (channel σ k .phase)))
+      let here : timesIn (node σ (nodeNo p) .buffer) (channelNo k) + timesIn (node σ (nodeNo p) .line) (channelNo k) ≤ timesOn σ (channelNo k) =
+      sum-term (nodeCount σ) p (λ q. timesIn (node σ (nodeNo q) .buffer) (channelNo k) + timesIn (node σ (nodeNo q) .line) (channelNo k)) l in
+      omega (arith, h .each-channel k m .once, one-most (moving (channel σ (channelNo k) .phase)))
 
-  sound-line : (p : ℕ) → p < nodeCount σ → length (node σ p .line) ≤ rowLength
+  sound-line : (p : ℕ) → p < nodeCount σ → length (node σ (nodeNo p) .line) ≤ rowLength
   sound-line p l =
-      let counts : length (node σ p .line) ≡ sum (channelCount σ) (λ k. count k (node σ p .line)) =
-      length-counts (channelCount σ) (node σ p .line) (λ k m. h .each-node p l .in-line k m .0) in
-      let most : sum (channelCount σ) (λ k. count k (node σ p .line)) ≤ sum (channelCount σ) (λ k. 1) =
-      sum-le (channelCount σ) (λ k. count k (node σ p .line)) (λ k. 1) (λ k m. once p k l m) in
+      let counts : length (node σ (nodeNo p) .line) ≡ sum (channelCount σ) (λ k. timesIn (node σ (nodeNo p) .line) (channelNo k)) =
+      rw (← length-numbers (node σ (nodeNo p) .line))
+      (length-counts (channelCount σ) (numbersOf (node σ (nodeNo p) .line)) (λ k m. h .each-node p l .in-line k m .0)) in
+      let most : sum (channelCount σ) (λ k. timesIn (node σ (nodeNo p) .line) (channelNo k)) ≤ sum (channelCount σ) (λ k. 1) =
+      sum-le (channelCount σ) (λ k. timesIn (node σ (nodeNo p) .line) (channelNo k)) (λ k. 1) (λ k m. once p k l m) in
       omega (arith, sum-ones (channelCount σ), h .channel-limit)
 
   pub sound-fits : Fits σ
@@ -278,8 +280,8 @@ module _ (σ : Network) (h : Facts ringLimits σ) where
         channels-fit = h .channel-limit;
         buffer-fits = λ p l. omega (arith, h .each-node p l .fits, h .each-node p l .slot-limit);
         line-fits = sound-line;
-        offer-fits = λ k l. offer-good (channel σ k .offer) (h .each-channel k l .good-offer);
-        carried-fits = λ k l. carried-good (channel σ k .phase) (h .each-channel k l .good-carried);
+        offer-fits = λ k l. offer-good (channel σ (channelNo k) .offer) (h .each-channel k l .good-offer);
+        carried-fits = λ k l. carried-good (channel σ (channelNo k) .phase) (h .each-channel k l .good-carried);
       }
 
 -- a sound ring in memory: what is known of it, and what shows that a ring is one

@@ -8,17 +8,16 @@ use native.Mathlib.Nat.{not-suc-le-zero, zero-add, suc-add, mul-suc, mul-zero, m
 use native.Mathlib.Omega.{arith}
 use lib.ListN.{length, getD, take, drop, set, replicate, length-append, length-take, length-drop, length-map, length-set, length-replicate, replicate-append-replicate, take-append-drop, drop-of-length-le, List·getD-append}
 use lib.Seq.{length-take-le, take-all, take-at, drop-at, take-append-le, drop-append-le, take-append-add, getD-take, getD-drop, getD-at, getD-set-same, getD-set-other, set-append-left, take-set-lt, take-add, set-at, ext-getD}
+use Rattle.numbers.specs.declared.ChannelNo.{ChannelNo}
 use Rattle.network.specs.Counting.{tabulate}
+use Rattle.network.specs.Network.{channelNo}
 use Rattle.network.specs.Layout.{row, padded, rows, cellsOf, queueOf}
 use Rattle.network.proofs.Ground.Splits.{by-same}
+use Rattle.network.proofs.Ground.Numbers.{map-append}
 
 -- lists and maps
 
 module _ {ℓ κ} {A : Type ℓ} {B : Type κ} where
-  pub map-append : (f : A → B) (xs ys : List A) → map f (xs ++ ys) ≡ map f xs ++ map f ys
-  map-append f [] ys = refl
-  map-append f (x ∷ xs) ys = ap (λ r. f x ∷ r) (map-append f xs ys)
-
   -- a map that another undoes
   pub map-back : (f : A → B) (g : B → A) → ((x : A) → g (f x) ≡ x) → (xs : List A) → map g (map f xs) ≡ xs
   map-back f g h [] = refl
@@ -141,20 +140,25 @@ padded-snoc n xs y l =
 
 -- the cells of a queue
 
-pub length-cells : (xs : List ℕ) → length (cellsOf xs) ≡ length xs
-length-cells xs = length-map xs suc
+pub length-cells : (ks : List ChannelNo) → length (cellsOf ks) ≡ length ks
+length-cells ks = length-map ks (λ (k : ChannelNo). suc (k .0))
+
+pub cells-append : (js ks : List ChannelNo) → cellsOf (js ++ ks) ≡ cellsOf js ++ cellsOf ks
+cells-append js ks = map-append (λ (k : ChannelNo). suc (k .0)) js ks
 
 -- a queue that fits a row is read off its cells
-pub queue-cells : (n : ℕ) (xs : List ℕ) → length xs ≤ n → queueOf (length xs) (padded n (cellsOf xs)) ≡ xs
-queue-cells n xs l = rw (padded-front n (length xs) (cellsOf xs) (length-cells xs) l) (map-back suc pred (λ x. refl) xs)
+pub queue-cells : (n : ℕ) (xs : List ChannelNo) → length xs ≤ n → queueOf (length xs) (padded n (cellsOf xs)) ≡ xs
+queue-cells n xs l =
+    rw (padded-front n (length xs) (cellsOf xs) (length-cells xs) l)
+    (map-back (λ (k : ChannelNo). suc (k .0)) (λ cell. channelNo (pred cell)) (λ k. refl) xs)
 
 -- one more at the end of the queue is one store, and the first leaves it by a shift of the cells, with a zero at the end
-pub cells-push : (n : ℕ) (xs : List ℕ) (k : ℕ) → length xs < n →
-    padded n (cellsOf (xs ++ (k ∷ []))) ≡ set (padded n (cellsOf xs)) (length xs) (suc k)
+pub cells-push : (n : ℕ) (xs : List ChannelNo) (k : ChannelNo) → length xs < n →
+    padded n (cellsOf (xs ++ (k ∷ []))) ≡ set (padded n (cellsOf xs)) (length xs) (suc (k .0))
 cells-push n xs k l =
-    rw (map-append suc xs (k ∷ []), padded-snoc n (cellsOf xs) (suc k) (rw length-cells l), length-cells xs)
+    rw (cells-append xs (k ∷ []), padded-snoc n (cellsOf xs) (suc (k .0)) (rw length-cells l), length-cells xs)
 
-pub cells-pop : (n k : ℕ) (ks : List ℕ) → length ks < n →
+pub cells-pop : (n : ℕ) (k : ChannelNo) (ks : List ChannelNo) → length ks < n →
     padded n (cellsOf ks) ≡ drop 1 (padded n (cellsOf (k ∷ ks))) ++ (0 ∷ [])
 cells-pop n k ks l =
     let m : ℕ = n - (length ks + 1) in
@@ -271,16 +275,16 @@ module _ (w : ℕ) where
   put-back cells p xs e = rw (← e, ← take-add (w * p) w cells) (take-append-drop (w * p + w) cells)
 
   -- one more at the end of a queue is one store
-  pub put-push : (cells : List ℕ) (p : ℕ) (xs : List ℕ) (k : ℕ) → w * p + w ≤ length cells →
+  pub put-push : (cells : List ℕ) (p : ℕ) (xs : List ChannelNo) (k : ChannelNo) → w * p + w ≤ length cells →
       row w cells p ≡ padded w (cellsOf xs) → length xs < w →
-      putRow cells p (cellsOf (xs ++ (k ∷ []))) ≡ set cells (w * p + length xs) (suc k)
+      putRow cells p (cellsOf (xs ++ (k ∷ []))) ≡ set cells (w * p + length xs) (suc (k .0))
   unfolding putRow
   put-push cells p xs k whole e l =
       let before : List ℕ = take (w * p) cells in
       let behind : List ℕ = drop (w * p + w) cells in
       let front : length before ≡ w * p = length-take-le (w * p) cells (omega arith) in
-      let stored : set (before ++ padded w (cellsOf xs) ++ behind) (w * p + length xs) (suc k)
-      ≡ before ++ set (padded w (cellsOf xs)) (length xs) (suc k) ++ behind =
-      set-middle before (padded w (cellsOf xs)) behind (w * p) (length xs) (suc k) front (omega (arith, length-padded w (cellsOf xs))) in
+      let stored : set (before ++ padded w (cellsOf xs) ++ behind) (w * p + length xs) (suc (k .0))
+      ≡ before ++ set (padded w (cellsOf xs)) (length xs) (suc (k .0)) ++ behind =
+      set-middle before (padded w (cellsOf xs)) behind (w * p) (length xs) (suc (k .0)) front (omega (arith, length-padded w (cellsOf xs))) in
       rw (cells-push w xs k l)
-      (sym stored ∙ ap (λ r. set r (w * p + length xs) (suc k)) (put-back cells p (cellsOf xs) e))
+      (sym stored ∙ ap (λ r. set r (w * p + length xs) (suc (k .0))) (put-back cells p (cellsOf xs) e))

@@ -13,7 +13,9 @@ use borrow.Author.Tests.{eq-eqb}
 use lib.ListN.{List·getD-eq-default}
 use Rattle.refusal.specs.declared.Refusal.{Refusal}
 use Rattle.batch.specs.declared.BatchRecord.{BatchRecord}
-use Rattle.network.specs.Network.{Network, Phase, resting, asking, ready, answering, fresh, noChannel, nodeCount, channelCount, channel, moving}
+use Rattle.numbers.specs.declared.NodeNo.{NodeNo}
+use Rattle.numbers.specs.declared.ChannelNo.{ChannelNo}
+use Rattle.network.specs.Network.{Network, Phase, resting, asking, ready, answering, fresh, nodeNo, noChannel, nodeCount, channelCount, channel, moving}
 use Rattle.network.specs.Sound.{Limits, sound}
 use Rattle.network.specs.Calls.{Event, Outcome, refused, accepted, unless}
 use Rattle.network.specs.Calls
@@ -42,20 +44,20 @@ matched-moves asking o x e = refl
 matched-moves ready o x e = absurd (Option·none-ne-some x e)
 matched-moves (answering y) o x e = refl
 
-module _ (L : Limits) (N : Net) (m : ℕ) (x : BatchRecord) (lm : m < N .c) where
+module _ (L : Limits) (N : Net) (m : ChannelNo) (x : BatchRecord) (lm : m .0 < N .c) where
   -- x is under way on channel m of a sound started ring with the plan N, and the measure of its place is v
   record Under (σ : Network) (v : ℕ) : Type 0 where
     started : Started L σ
     same-net : netOf σ ≡ N
     match : matched σ m ≡ some x
-    place : Place N m (stateOf σ)
-    value : Ψ N m place ≡ v
+    place : Place N (m .0) (stateOf σ)
+    value : Ψ N (m .0) place ≡ v
 
   under-sound : {σ : Network} {v : ℕ} → Under σ v → Sound N (stateOf σ)
   under-sound {σ} u = subst (λ M. Sound M (stateOf σ)) (u .same-net) (u .started .tables)
 
   some-left : (σ : Network) (v : ℕ) → Under σ v → 1 ≤ v
-  some-left σ v u = rw (u .value) at (Ψ-some N m (under-sound u) lm (u .place))
+  some-left σ v u = rw (u .value) at (Ψ-some N (m .0) (under-sound u) lm (u .place))
 
   -- what a call does to x
   Next : Network → ℕ → Call → Outcome Network → Type 0
@@ -65,11 +67,11 @@ module _ (L : Limits) (N : Net) (m : ℕ) (x : BatchRecord) (lm : m < N .c) wher
   next-step : {σ τ : Network} {v : ℕ} {a : Call} {e : Event} → Under σ v → counts a ≡ true → Stepped σ a e τ → Next σ v a (accepted e τ)
   unfolding Next
   next-step {σ} {τ} {v} {a} {e} u c d =
-      ⊎-elim (λ here. inl (ap (handedOn m) here ∙ rw (eq-eqb m m refl)))
+      ⊎-elim (λ here. inl (ap (handedOn m) here ∙ rw (eq-eqb (m .0) (m .0) refl)))
       (λ r.
       inr (
         r .0,
-        Ψ N m (r .1 .1),
+        Ψ N (m .0) (r .1 .1),
         record {
           started = stepped-started L σ τ (u .started) d;
           same-net = d .same-net ∙ u .same-net;
@@ -79,7 +81,7 @@ module _ (L : Limits) (N : Net) (m : ℕ) (x : BatchRecord) (lm : m < N .c) wher
         },
         rw c (omega (arith, r .1 .2, u .value)),
       ))
-      (falls N m x (under-sound u) lm (u .match) (u .place)
+      (falls N (m .0) x (under-sound u) lm (u .match) (u .place)
       (subst (λ M. Did M (stateOf σ) a e (stateOf τ)) (u .same-net) (d .did)))
 
   next-call : {σ : Network} {v : ℕ} (a : Call) {o : Outcome Network} → Under σ v → After (Answered σ a) o → Next σ v a o
@@ -95,15 +97,15 @@ module _ (L : Limits) (N : Net) (m : ℕ) (x : BatchRecord) (lm : m < N .c) wher
 
   -- while x is under way an entry or a move would be accepted
   accepted-next : {σ : Network} {v : ℕ} → Under σ v →
-      (p : ℕ) × ((isAccepted (call L (enter p) σ) || isAccepted (call L (move p) σ)) ≡ true)
+      (p : NodeNo) × ((isAccepted (call L (enter p) σ) || isAccepted (call L (move p) σ)) ≡ true)
   accepted-next {σ} u =
       let s = u .started in
-      let below : m < channelCount σ = subst (λ M. m < M .c) (sym (u .same-net)) lm in
+      let below : m .0 < channelCount σ = subst (λ M. m .0 < M .c) (sym (u .same-net)) lm in
       let on : moving (channel σ m .phase) ≡ true = matched-moves (channel σ m .phase) (channel σ m .offer) x (u .match) in
-      let r = no-stall (netOf σ) (stateOf σ) m (s .tables) below on in (
-        r .0,
-        ⊎-elim (λ g. rw (enter-accepted L σ s (r .0) (r .1) g))
-            (λ g. rw (move-accepted L σ s (r .0) (r .1) g) (or-true (isAccepted (call L (enter (r .0)) σ))))
+      let r = no-stall (netOf σ) (stateOf σ) (m .0) (s .tables) below on in (
+        nodeNo (r .0),
+        ⊎-elim (λ g. rw (enter-accepted L σ s (nodeNo (r .0)) (r .1) g))
+            (λ g. rw (move-accepted L σ s (nodeNo (r .0)) (r .1) g) (or-true (isAccepted (call L (enter (nodeNo (r .0))) σ))))
             (r .2),
       )
 
@@ -117,26 +119,26 @@ seen-as-is (refused r) = refl
 seen-as-is (accepted e τ) = refl
 
 -- a channel that there is not is matched with nothing
-matched-below : (σ : Network) (m : ℕ) (x : BatchRecord) → matched σ m ≡ some x → m < channelCount σ
+matched-below : (σ : Network) (m : ChannelNo) (x : BatchRecord) → matched σ m ≡ some x → m .0 < channelCount σ
 matched-below σ m x e =
-    by-less m (channelCount σ) (λ l. l)
+    by-less (m .0) (channelCount σ) (λ l. l)
     (λ beyond.
     let none-there : channel σ m ≡ noChannel = List·getD-eq-default (σ .channels) noChannel beyond in
     absurd (Option·none-ne-some x (ap (λ s. matchedIn (s .phase) (s .offer)) (sym none-there) ∙ e)))
 
 module _ (L : Limits) where
-  Fulfilled : Network → ℕ → BatchRecord → List Call → Type 0
+  Fulfilled : Network → ChannelNo → BatchRecord → List Call → Type 0
   Fulfilled σ m x calls = InTime fresh (sound L) (λ τ. τ) (call L) σ m x calls ⊎ UnderWay fresh (sound L) (λ τ. τ) (call L) σ m calls
 
-  served : (σ : Network) (m : ℕ) (x : BatchRecord) (calls : List Call) →
+  served : (σ : Network) (m : ChannelNo) (x : BatchRecord) (calls : List Call) →
       sound L σ ≡ true → σ .started ≡ true → matched σ m ≡ some x → Fulfilled σ m x calls
   unfolding Fulfilled
   served σ m x calls ok on e =
       let N = netOf σ in
       let s = sound-started L σ ok on in
-      let lm : m < channelCount σ = matched-below σ m x e in
-      let at = placed N m (s .tables) lm e in
-      let v : ℕ = Ψ N m (at .0) in
+      let lm : m .0 < channelCount σ = matched-below σ m x e in
+      let at = placed N (m .0) (s .tables) lm e in
+      let v : ℕ = Ψ N (m .0) (at .0) in
       let u : Under L N m x lm σ v = record { started = s; same-net = refl; match = e; place = at .0; value = refl } in
       ⊎-elim
       (λ r.
@@ -161,41 +163,41 @@ module _ (L : Limits) where
       (every-run (call L) m x (Under L N m x lm) (under-falls L N m x lm) (some-left L N m x lm) calls σ v u)
 
   -- what is offered on k and not yet delivered
-  abbrev pendingOn : ℕ → Network → List BatchRecord
-  pendingOn k σ = pending (stateOf σ) k
+  abbrev pendingOn : ChannelNo → Network → List BatchRecord
+  pendingOn k σ = pending (stateOf σ) (k .0)
 
-  Balanced : ℕ → Call → Network → Outcome Network → Type 0
+  Balanced : ChannelNo → Call → Network → Outcome Network → Type 0
   Balanced k a σ o = pendingOn k σ ++ offeredBy k a o ≡ deliveredBy k o ++ pendingOn k (after σ o)
 
   -- a call that the account does not see, between rings with the same records pending
-  balanced-silent : (k : ℕ) {a : Call} {e : Event} (σ τ : Network) → Silent a e → pendingOn k τ ≡ pendingOn k σ →
+  balanced-silent : (k : ChannelNo) {a : Call} {e : Event} (σ τ : Network) → Silent a e → pendingOn k τ ≡ pendingOn k σ →
       Balanced k a σ (accepted e τ)
   unfolding Balanced
   balanced-silent k σ τ q same = rw (q .none-sent k, q .none-handed k, same) (append-nil _)
 
-  balanced-started : (k : ℕ) {σ : Network} (a : Call) {o : Outcome Network} → Started L σ → After (Answered σ a) o → Balanced k a σ o
+  balanced-started : (k : ChannelNo) {σ : Network} (a : Call) {o : Outcome Network} → Started L σ → After (Answered σ a) o → Balanced k a σ o
   unfolding Balanced
   balanced-started k a s not-done = append-nil _
-  balanced-started k {σ} a s (was-done (by-step c d)) = in-order-step (netOf σ) (s .tables) (d .did) k
+  balanced-started k {σ} a s (was-done (by-step c d)) = in-order-step (netOf σ) (s .tables) (d .did) (k .0)
   balanced-started k {σ} a s (was-done {τ = τ} (by-question q same)) = balanced-silent k σ τ q (ap (pendingOn k) same)
 
-  idle-pending : (k : ℕ) (σ : Network) → Idle L (σ .nodes) (σ .channels) (σ .deliveries) → pendingOn k σ ≡ []
-  idle-pending k σ i = let r = idle-rests i k in rw (r .0, r .1)
+  idle-pending : (k : ChannelNo) (σ : Network) → Idle L (σ .nodes) (σ .channels) (σ .deliveries) → pendingOn k σ ≡ []
+  idle-pending k σ i = let r = idle-rests i (k .0) in rw (r .0, r .1)
 
-  balanced-before : (k : ℕ) (σ : Network) (a : Call) {o : Outcome Network} →
+  balanced-before : (k : ChannelNo) (σ : Network) (a : Call) {o : Outcome Network} →
       Idle L (σ .nodes) (σ .channels) (σ .deliveries) → After (Prepared L a) o → Balanced k a σ o
   unfolding Balanced
   balanced-before k σ a i not-done = append-nil _
   balanced-before k σ a i (was-done {τ = τ} p) =
       balanced-silent k σ τ (p .unheard) (idle-pending k τ (p .still-idle) ∙ sym (idle-pending k σ i))
 
-  balanced : (k : ℕ) (a : Call) (σ : Network) → sound L σ ≡ true → Balanced k a σ (call L a σ)
+  balanced : (k : ChannelNo) (a : Call) (σ : Network) → sound L σ ≡ true → Balanced k a σ (call L a σ)
   balanced k a σ ok =
       by-test (σ .started)
       (λ on. let s = sound-started L σ ok on in balanced-started k a s (call-did L σ s a))
       (λ off. balanced-before k σ a (sound-idle L σ ok off) (call-before L σ ok off a))
 
-  in-order : (k : ℕ) (calls : List Call) →
+  in-order : (k : ChannelNo) (calls : List Call) →
       (left : List BatchRecord) × (offeredOn (call L) k calls fresh ≡ deliveredOn (call L) k calls fresh ++ left)
   unfolding Balanced
   in-order k calls = (
@@ -233,13 +235,13 @@ module _ (L : Limits) where
   unfolding checkedCall
   question-leaves σ a e = left-unless σ (sound L σ) _ _ e
 
-  hops-left-leaves : (k : ℕ) (σ : Network) → after σ (call L (hopsLeft k) σ) ≡ σ
+  hops-left-leaves : (k : ChannelNo) (σ : Network) → after σ (call L (hopsLeft k) σ) ≡ σ
   unfolding Calls.hopsLeft
-  hops-left-leaves k σ = left-unless σ (σ .started) _ _ (left-unless σ (ltb k (channelCount σ)) _ _ refl)
+  hops-left-leaves k σ = left-unless σ (σ .started) _ _ (left-unless σ (ltb (k .0) (channelCount σ)) _ _ refl)
 
-  waiting-set-leaves : (p : ℕ) (σ : Network) → after σ (call L (waitingSet p) σ) ≡ σ
+  waiting-set-leaves : (p : NodeNo) (σ : Network) → after σ (call L (waitingSet p) σ) ≡ σ
   unfolding Calls.waitingSet
-  waiting-set-leaves p σ = left-unless σ (ltb p (nodeCount σ)) _ _ refl
+  waiting-set-leaves p σ = left-unless σ (ltb (p .0) (nodeCount σ)) _ _ refl
 
   pub safe : Safe fresh (sound L) (λ σ. σ) (checkedCall L)
   safe =

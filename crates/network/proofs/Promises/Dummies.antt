@@ -13,6 +13,7 @@ use lib.ListN.{getD}
 use borrow.Author.Tests.{eq-eqb}
 use Rattle.refusal.proofs.Number.{in-range}
 use Rattle.batch.specs.declared.BatchRecord.{BatchRecord}
+use Rattle.numbers.specs.declared.ChannelNo.{ChannelNo}
 use Rattle.batch.specs.Good.{verdictOf, goodRecord, batchGood, tempGood, nameLengthGood, nameGood, widthsGood, nameCellsGood}
 use Rattle.hops.specs.Hops.{hops, next}
 use Rattle.network.specs.Counting.{sum, weigh, allBelow}
@@ -26,7 +27,7 @@ use Rattle.network.specs.Layout.{ringLimits, view, hold, holdHead, heldO
 use Rattle.network.specs.Answers.{Said, saidIn, says, outcomeNumber, outcomeOf, stepOf}
 use Rattle.network.specs.Demand.{UnderWay}
 use Rattle.network.specs.Promise.{MeetsContracts}
-use Rattle.network.specs.Edges.{workedRecord}
+use Rattle.network.specs.Edges.{n0, n1, c0, workedRecord}
 use Rattle.network.specs.Dummies.{Way, truly, actsLaterLaps, grudgesSlots, invents, movesNothing, turnsDown, alwaysSays, begun, inLine, inBuffer, firstLap, secondLap, broken, checkedRing, asCode, Exposed, Demand2Rejects, ServedBy, InOrderBy, Demand3Rejects, elevenLaps, pastTheBound, EachCanFail, SevenCounted}
 use Rattle.network.proofs.Lists.Clauses.{facts}
 use Rattle.network.proofs.Memory.Held.{view-hold, sound-fits, sound-hold}
@@ -62,7 +63,7 @@ module _ (dummy : Way) (a : Call) (σ : Network) (ok : sound ringLimits σ ≡ t
 -- what tells two answers apart
 number-of : Event → ℕ
 number-of done = 0
-number-of (delivered k x) = suc k
+number-of (delivered k x) = suc (k .0)
 number-of (hopsAre h) = suc h
 number-of (waitingAre w) = suc w
 
@@ -76,15 +77,15 @@ pub demand2-rejects : Demand2Rejects
 unfolding number-of begun inLine inBuffer firstLap secondLap sound soundNode soundChannel soundAfter sum weigh allBelow hops next oneMore verdictOf goodRecord batchGood tempGood nameLengthGood nameGood widthsGood nameCellsGood arrival holder hopsOf Calls.addNode Calls.addChannel Calls.start Calls.receive Calls.send Calls.enter Calls.move Calls.hopsLeft
 demand2-rejects =
     record {
-      acts-later-laps = exposed actsLaterLaps (move 1) secondLap refl (other-values (λ e. omega (arith, e)));
-      grudges-18 = exposed grudgesSlots (enter 0) inLine refl (other-number (λ e. omega (arith, e)));
-      grudges-20 = exposed grudgesSlots (move 0) inBuffer refl (other-number (λ e. omega (arith, e)));
+      acts-later-laps = exposed actsLaterLaps (move n1) secondLap refl (other-values (λ e. omega (arith, e)));
+      grudges-18 = exposed grudgesSlots (enter n0) inLine refl (other-number (λ e. omega (arith, e)));
+      grudges-20 = exposed grudgesSlots (move n0) inBuffer refl (other-number (λ e. omega (arith, e)));
       free-at-18 = (refl, refl);
       free-at-20 = (refl, refl);
-      invents-hops = exposed invents (hopsLeft 0) inLine refl (other-values (λ e. omega (arith, e)));
-      invents-delivery = exposed invents (move 1) firstLap refl (other-values (λ e. omega (arith, e)));
-      moves-nothing = exposed movesNothing (move 1) firstLap refl (other-values (λ e. omega (arith, e)));
-      turns-down = λ r. exposed (turnsDown r) (enter 0) inLine refl (other-number (λ e. omega (arith, e, in-range r .0)));
+      invents-hops = exposed invents (hopsLeft c0) inLine refl (other-values (λ e. omega (arith, e)));
+      invents-delivery = exposed invents (move n1) firstLap refl (other-values (λ e. omega (arith, e)));
+      moves-nothing = exposed movesNothing (move n1) firstLap refl (other-values (λ e. omega (arith, e)));
+      turns-down = λ r. exposed (turnsDown r) (enter n0) inLine refl (other-number (λ e. omega (arith, e, in-range r .0)));
       always-says = λ e next. exposed (alwaysSays e next) start begun refl (other-number (λ n. omega (arith, n)));
     }
 
@@ -94,7 +95,7 @@ nothing-first : (xs ys : List BatchRecord) → xs ++ ys ≡ [] → (xs ≡ []) �
 nothing-first [] ys e = (refl, e)
 nothing-first (x ∷ xs) ys e = absurd (cons≢nil e)
 
-module _ (way : Way) (m : ℕ) where
+module _ (way : Way) (m : ChannelNo) where
   none-before : (upTo rest : List Call) (σ : Network) → deliveredOn way m (upTo ++ rest) σ ≡ [] → deliveredOn way m upTo σ ≡ []
   none-before [] rest σ none = refl
   none-before (a ∷ upTo) rest σ none =
@@ -121,31 +122,31 @@ module _ (way : Way) (m : ℕ) where
   past-bound : (x : BatchRecord) (σ : Network) (calls : List Call) → Starts x σ calls → bound σ ≤ counted way calls σ → ServedBy way → ⊥
   past-bound x σ calls s many = unserved x σ calls s (λ u. omega (arith, u .fewer, many))
 
-not-offered : (k : ℕ) (x : BatchRecord) (next : Call → Network → Network) → InOrderBy (alwaysSays (delivered k x) next) → ⊥
+not-offered : (k : ChannelNo) (x : BatchRecord) (next : Call → Network → Network) → InOrderBy (alwaysSays (delivered k x) next) → ⊥
 not-offered k x next in-order =
     let r = in-order k (start ∷ []) in
-    nil≢cons (rw (eq-eqb k k refl) at (r .1))
+    nil≢cons (rw (eq-eqb (k .0) (k .0) refl) at (r .1))
 
 pub demand3-rejects : Demand3Rejects
 unfolding begun inLine inBuffer firstLap secondLap sound soundNode soundChannel soundAfter sum weigh allBelow hops next oneMore verdictOf goodRecord batchGood tempGood nameLengthGood nameGood widthsGood nameCellsGood arrival Calls.addNode Calls.addChannel Calls.start Calls.receive Calls.send Calls.enter Calls.move
 demand3-rejects =
     record {
       acts-later-laps =
-          past-bound actsLaterLaps 0 workedRecord secondLap elevenLaps (record { ok = refl; on = refl; match = refl; none = refl }) (lit≤ tt);
+          past-bound actsLaterLaps c0 workedRecord secondLap elevenLaps (record { ok = refl; on = refl; match = refl; none = refl }) (lit≤ tt);
       moves-nothing =
-          past-bound movesNothing 0 workedRecord firstLap (pastTheBound (move 1)) (record { ok = refl; on = refl; match = refl; none = refl })
+          past-bound movesNothing c0 workedRecord firstLap (pastTheBound (move n1)) (record { ok = refl; on = refl; match = refl; none = refl })
           (lit≤ tt);
       turns-down = λ r.
-          unserved (turnsDown r) 0 workedRecord inLine [] (record { ok = refl; on = refl; match = refl; none = refl })
+          unserved (turnsDown r) c0 workedRecord inLine [] (record { ok = refl; on = refl; match = refl; none = refl })
           (λ u. false≢true (u .next-accepted));
       always-says = same-always;
     }
   where
     -- whatever is said, if it is no delivery
     no-delivery : (e : Event) (next : Call → Network → Network) →
-        deliveredOn (alwaysSays e next) 0 (pastTheBound (enter 0)) inLine ≡ [] → ServedBy (alwaysSays e next) → ⊥
+        deliveredOn (alwaysSays e next) c0 (pastTheBound (enter n0)) inLine ≡ [] → ServedBy (alwaysSays e next) → ⊥
     no-delivery e next none =
-        past-bound (alwaysSays e next) 0 workedRecord inLine (pastTheBound (enter 0))
+        past-bound (alwaysSays e next) c0 workedRecord inLine (pastTheBound (enter n0))
         (record { ok = refl; on = refl; match = refl; none = none })
         (lit≤ tt)
 
@@ -165,10 +166,11 @@ each-can-fail =
       hops-left-leaves = λ h. false≢true (sym (ap (λ σ. σ .started) (h fresh)));
       waiting-set-leaves = λ h. false≢true (sym (ap (λ σ. σ .started) (h fresh)));
       each = λ h.
-          let e : _≡_ {A = ℕ} 6 5 = ap (λ l. number-of (getD l 0 (says 0) .values)) (h inLine (hopsLeft 0 ∷ []) refl .same-answers) in omega arith;
+          let e : _≡_ {A = ℕ} 6 5 = ap (λ l. number-of (getD l 0 (says 0) .values)) (h inLine (hopsLeft c0 ∷ []) refl .same-answers) in
+          omega arith;
       unsound = λ h. let e : _≡_ {A = ℕ} 1 25 = ap (λ l. getD l 0 (says 0) .number) (h broken (start ∷ []) refl .all-25) in omega arith;
       served = demand3-rejects .moves-nothing;
-      in-order = not-offered 0 workedRecord (λ a σ. σ);
+      in-order = not-offered c0 workedRecord (λ a σ. σ);
       refusal-leaves = λ h.
           let e : _≡_ {A = ℕ} 0 1 = ap (λ r. r .head .started) (h start (hold broken) (λ n. omega (arith, n)) .ring-as-before) in omega arith;
       next-ring = λ h. let e : _≡_ {A = ℕ} 1 0 = ap (λ r. r .head .started) (h start (hold broken)) in omega arith;

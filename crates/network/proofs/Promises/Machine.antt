@@ -1,12 +1,12 @@
 -- What is shown of the ring apart from its layout holds of anything that answers ring calls the same way: a `Machine`. Its runs are
 -- runs of the ring that it holds, call for call, so delivery in time and order are carried over, and demand 3 is whole. Assumes nothing.
-use Prim.Native.Nat.{ℕ}
 use mathlib.Core.Path.{_≡_, refl, ap, _∙_}
 use mathlib.Core.Logic.{_⊎_, inl, inr, ⊎-elim}
 use mathlib.Core.Bool.{Bool, true, false}
 use mathlib.Core.List.{List, [], _∷_, map}
 use Rattle.refusal.specs.declared.Refusal.the-variants.{UnsoundRing}
 use Rattle.batch.specs.declared.BatchRecord.{BatchRecord}
+use Rattle.numbers.specs.declared.ChannelNo.{ChannelNo}
 use Rattle.network.specs.Network.{Network}
 use Rattle.network.specs.Network
 use Rattle.network.specs.Sound.{Limits}
@@ -38,11 +38,11 @@ module _ {S : Type 0} (seen : S → Network) where
   seen-counted a (refused r) = refl
   seen-counted a (accepted e t) = refl
 
-  seen-offered : (k : ℕ) (a : Call) (o : Outcome S) → offeredBy k a o ≡ offeredBy k a (seenBy seen o)
+  seen-offered : (k : ChannelNo) (a : Call) (o : Outcome S) → offeredBy k a o ≡ offeredBy k a (seenBy seen o)
   seen-offered k a (refused r) = refl
   seen-offered k a (accepted e t) = refl
 
-  seen-delivered : (k : ℕ) (o : Outcome S) → deliveredBy k o ≡ deliveredBy k (seenBy seen o)
+  seen-delivered : (k : ChannelNo) (o : Outcome S) → deliveredBy k o ≡ deliveredBy k (seenBy seen o)
   seen-delivered k (refused r) = refl
   seen-delivered k (accepted e t) = refl
 
@@ -94,12 +94,12 @@ module _ (L : Limits) {S : Type 0} (fresh : S) (sound : S → Bool) (seen : S �
   counted-seen (a ∷ calls) s h =
       rw (seen-counted seen a (step a s), step-seen a s h, counted-seen calls (after s (step a s)) (step-sound a s h), seen-next a s h)
 
-  offered-seen : (k : ℕ) (calls : List Call) (s : S) → sound s ≡ true → offeredOn step k calls s ≡ offeredOn (call L) k calls (seen s)
+  offered-seen : (k : ChannelNo) (calls : List Call) (s : S) → sound s ≡ true → offeredOn step k calls s ≡ offeredOn (call L) k calls (seen s)
   offered-seen k [] s h = refl
   offered-seen k (a ∷ calls) s h =
       rw (seen-offered seen k a (step a s), step-seen a s h, offered-seen k calls (after s (step a s)) (step-sound a s h), seen-next a s h)
 
-  handed-seen : (k : ℕ) (calls : List Call) (s : S) → sound s ≡ true → deliveredOn step k calls s ≡ deliveredOn (call L) k calls (seen s)
+  handed-seen : (k : ChannelNo) (calls : List Call) (s : S) → sound s ≡ true → deliveredOn step k calls s ≡ deliveredOn (call L) k calls (seen s)
   handed-seen k [] s h = refl
   handed-seen k (a ∷ calls) s h =
       rw (seen-delivered seen k (step a s), step-seen a s h, handed-seen k calls (after s (step a s)) (step-sound a s h), seen-next a s h)
@@ -109,7 +109,7 @@ module _ (L : Limits) {S : Type 0} (fresh : S) (sound : S → Bool) (seen : S �
 
   -- what is shown of the definitions, carried over
   module _ (D : Served Network.fresh (Sound.sound L) (λ σ. σ) (call L)) (O : InOrder Network.fresh (Sound.sound L) (λ σ. σ) (call L)) where
-    in-time : (s : S) (m : ℕ) (x : BatchRecord) (calls : List Call) → sound s ≡ true →
+    in-time : (s : S) (m : ChannelNo) (x : BatchRecord) (calls : List Call) → sound s ≡ true →
         InTime Network.fresh (Sound.sound L) (λ σ. σ) (call L) (seen s) m x calls → InTime fresh sound seen step s m x calls
     in-time s m x calls h i =
         record {
@@ -120,7 +120,7 @@ module _ (L : Limits) {S : Type 0} (fresh : S) (sound : S → Bool) (seen : S �
           within = rw (counted-seen (i .upTo) s h) (i .within);
         }
 
-    under-way : (s : S) (m : ℕ) (calls : List Call) → sound s ≡ true →
+    under-way : (s : S) (m : ChannelNo) (calls : List Call) → sound s ≡ true →
         UnderWay Network.fresh (Sound.sound L) (λ σ. σ) (call L) (seen s) m calls → UnderWay fresh sound seen step s m calls
     under-way s m calls h u =
         let on = run-sound calls s h in

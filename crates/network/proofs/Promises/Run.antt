@@ -7,6 +7,7 @@ use mathlib.Core.Logic.{_⊎_, inl, inr, ⊎-elim}
 use mathlib.Core.List.{List, [], _∷_, _++_, append-assoc, append-nil}
 use native.Mathlib.Omega.{arith}
 use Rattle.batch.specs.declared.BatchRecord.{BatchRecord}
+use Rattle.numbers.specs.declared.ChannelNo.{ChannelNo}
 use Rattle.network.specs.Calls.{Outcome, refused, accepted}
 use Rattle.network.specs.Runs.{Call, counts, after, countedBy, offeredBy, deliveredBy, run, counted, offeredOn, deliveredOn}
 use Rattle.network.proofs.Ground.Counting.{one-most}
@@ -17,7 +18,7 @@ counted-one a (refused r) = omega arith
 counted-one a (accepted e t) = one-most (counts a)
 
 -- Under s v: x is under way on channel m in the ring s, and the number that falls is v.
-module _ {S : Type 0} (step : Call → S → Outcome S) (m : ℕ) (x : BatchRecord) (Under : S → ℕ → Type 0) where
+module _ {S : Type 0} (step : Call → S → Outcome S) (m : ChannelNo) (x : BatchRecord) (Under : S → ℕ → Type 0) where
   -- a call delivers x on m, or x stays under way and the number pays for what is counted
   abbrev pub Falls : Type 0
   Falls =
@@ -76,9 +77,10 @@ module _ {S : Type 0} (step : Call → S → Outcome S) (m : ℕ) (x : BatchReco
         (falls a s v u)
 
 -- Order: what is offered on channel k and not yet delivered is pending in the ring. Kept: what holds of every ring of the run.
-module _ {S : Type 0} (step : Call → S → Outcome S) (k : ℕ) (Kept : S → Type 0) (pending : S → List BatchRecord)
+module _ {S : Type 0} (step : Call → S → Outcome S) (k : ChannelNo) (Kept : S → Type 0) (pending : S → List BatchRecord)
     (keeps : (a : Call) (s : S) → Kept s → Kept (after s (step a s)))
-    (balance : (a : Call) (s : S) → Kept s → pending s ++ offeredBy k a (step a s) ≡ deliveredBy k (step a s) ++ pending (after s (step a s))) where
+    (balance : (a : Call) (s : S) → Kept s →
+    pending s ++ offeredBy k a (step a s) ≡ deliveredBy k (step a s) ++ pending (after s (step a s))) where
   pub run-order : (calls : List Call) (s : S) → Kept s →
       pending s ++ offeredOn step k calls s ≡ deliveredOn step k calls s ++ pending (run step calls s)
   run-order [] s u = append-nil _

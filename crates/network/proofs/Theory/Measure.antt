@@ -14,7 +14,7 @@ use borrow.Author.Tests.{ne-eqb}
 use Rattle.batch.specs.declared.BatchRecord.{BatchRecord}
 use Rattle.hops.specs.Hops.{hops, next}
 use Rattle.network.specs.Counting.{one, sum, count}
-use Rattle.network.specs.Network.{Phase, resting, asking, ready, answering}
+use Rattle.network.specs.Network.{Phase, resting, asking, ready, answering, channelNo}
 use Rattle.network.specs.Sound.{absent}
 use Rattle.network.specs.Calls.{Event, delivered}
 use Rattle.network.specs.Runs.{Call, matchedIn, handedOn}
@@ -298,7 +298,7 @@ module _ (N : Net) where
           stands-once m s lm la lp stands here
 
       falls-at : {a : Call} {e : Event} {τ : State} → Did N σ a e τ →
-          (e ≡ delivered m x) ⊎ ((handedOn m e ≡ []) × Nearer x (measure σ at d) τ)
+          (e ≡ delivered (channelNo m) x) ⊎ ((handedOn (channelNo m) e ≡ []) × Nearer x (measure σ at d) τ)
       falls-at (did-receive k lk rests) =
           inr (
             refl,
@@ -403,6 +403,6 @@ module _ (N : Net) where
 
     -- Every accepted receive, send, entry and move delivers x on m, or hands out nothing on m and makes the number fall.
     pub falls : (x : BatchRecord) {σ τ : State} {a : Call} {e : Event} → Sound N σ → m < c → matchOf N σ m ≡ some x → (P : Place σ) →
-        Did N σ a e τ → (e ≡ delivered m x) ⊎ ((handedOn m e ≡ []) × Nearer x (Ψ P) τ)
+        Did N σ a e τ → (e ≡ delivered (channelNo m) x) ⊎ ((handedOn (channelNo m) e ≡ []) × Nearer x (Ψ P) τ)
     unfolding Ψ
     falls x s lm match P did = falls-at x s lm match (P .below) (P .stands) did

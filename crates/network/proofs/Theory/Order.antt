@@ -7,7 +7,7 @@ use mathlib.Core.List.{List, [], _∷_, _++_, append-nil}
 use mathlib.Core.Option.{Option, none, some}
 use borrow.Author.Tests.{eq-eqb, ne-eqb}
 use Rattle.batch.specs.declared.BatchRecord.{BatchRecord}
-use Rattle.network.specs.Network.{Phase, resting, asking, ready, answering}
+use Rattle.network.specs.Network.{Phase, resting, asking, ready, answering, channelNo}
 use Rattle.network.specs.Calls.{Event}
 use Rattle.network.specs.Runs.{Call, onChannel, sentOn, handedOn}
 use Rattle.network.proofs.Ground.Splits.{by-same}
@@ -41,21 +41,22 @@ at-channel σ k j f o xs ys same other =
 
 -- record x, sent or handed out on channel k, as channel j sees it
 
-on-same : (j k : ℕ) (x : BatchRecord) → j ≡ k → onChannel j k x ≡ x ∷ []
+on-same : (j k : ℕ) (x : BatchRecord) → j ≡ k → onChannel (channelNo j) (channelNo k) x ≡ x ∷ []
 on-same j k x e = rw (eq-eqb k j (sym e))
 
-on-other : (j k : ℕ) (x : BatchRecord) → j ≢ k → onChannel j k x ≡ []
+on-other : (j k : ℕ) (x : BatchRecord) → j ≢ k → onChannel (channelNo j) (channelNo k) x ≡ []
 on-other j k x d = rw (ne-eqb k j (λ e. d (sym e)))
 
 module _ (N : Net) where
   pub in-order-step : {σ τ : State} {a : Call} {e : Event} → Sound N σ → Did N σ a e τ → (j : ℕ) →
-      pending σ j ++ sentOn j a ≡ handedOn j e ++ pending τ j
+      pending σ j ++ sentOn (channelNo j) a ≡ handedOn (channelNo j) e ++ pending τ j
   in-order-step {σ} s (did-receive k l r) j =
       at-channel σ k j asking (σ .offer k) [] [] (λ e. rw r (append-nil _)) (λ d. (refl, refl))
   in-order-step {σ} s (did-offer k x l g o r) j =
-      at-channel σ k j (σ .phase k) (some x) (onChannel j k x) [] (λ e. rw (on-same j k x e, o, append-nil)) (λ d. (on-other j k x d, refl))
+      at-channel σ k j (σ .phase k) (some x) (onChannel (channelNo j) (channelNo k) x) [] (λ e. rw (on-same j k x e, o, append-nil))
+      (λ d. (on-other j k x d, refl))
   in-order-step {σ} s (did-answer k x l g r) j =
-      at-channel σ k j (answering x) none (onChannel j k x) [] (λ e. rw (on-same j k x e, r, s .ready-bare k l r))
+      at-channel σ k j (answering x) none (onChannel (channelNo j) (channelNo k) x) [] (λ e. rw (on-same j k x e, r, s .ready-bare k l r))
       (λ d. (on-other j k x d, refl))
   in-order-step s (did-enter p k ks l e r) j = append-nil _
   in-order-step s (did-pass p k ks l e t d r m) j = append-nil _
@@ -63,5 +64,5 @@ module _ (N : Net) where
   in-order-step {σ} s (did-respond p k ks x l e r t o) j =
       at-channel σ k j (answering x) none [] [] (λ i. rw (r, o)) (λ d. (refl, refl))
   in-order-step {σ} s (did-deliver p k ks x l e r t) j =
-      at-channel σ k j resting (σ .offer k) [] (onChannel j k x) (λ i. rw (on-same j k x i, r) (append-nil _))
+      at-channel σ k j resting (σ .offer k) [] (onChannel (channelNo j) (channelNo k) x) (λ i. rw (on-same j k x i, r) (append-nil _))
       (λ d. (refl, on-other j k x d))

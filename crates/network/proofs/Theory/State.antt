@@ -15,7 +15,7 @@ use Rattle.batch.specs.declared.BatchRecord.{BatchRecord}
 use Rattle.batch.specs.Good.{goodRecord}
 use Rattle.hops.specs.Hops.{hops, next}
 use Rattle.network.specs.Counting.{one, sum, count, occupied}
-use Rattle.network.specs.Network.{Phase, resting, asking, ready, answering, moving, fromEnd}
+use Rattle.network.specs.Network.{Phase, resting, asking, ready, answering, nodeNo, channelNo, moving, fromEnd}
 use Rattle.network.specs.Sound.{isReady, goodOffer, goodCarried}
 use Rattle.network.specs.Calls.{Event, done, delivered}
 use Rattle.network.specs.Runs.{Call, receive, send, enter, move, matchedIn}
@@ -125,29 +125,29 @@ module _ (N : Net) where
   -- An accepted receive, send, enter or move: the call, its answer and the next state.
   pub data Did (σ : State) : Call → Event → State → Type 0 where
     did-receive : (k : ℕ) → k < c → σ .phase k ≡ resting →
-        Did σ (receive k) done (join (receiver k) k (turn k asking (σ .offer k) σ))
+        Did σ (receive (channelNo k)) done (join (receiver k) k (turn k asking (σ .offer k) σ))
     did-offer : (k : ℕ) (x : BatchRecord) → k < c → goodRecord x ≡ true → σ .offer k ≡ none → isReady (σ .phase k) ≡ false →
-        Did σ (send k x) done (turn k (σ .phase k) (some x) σ)
+        Did σ (send (channelNo k) x) done (turn k (σ .phase k) (some x) σ)
     did-answer : (k : ℕ) (x : BatchRecord) → k < c → goodRecord x ≡ true → σ .phase k ≡ ready →
-        Did σ (send k x) done (join (sender k) k (turn k (answering x) none σ))
+        Did σ (send (channelNo k) x) done (join (sender k) k (turn k (answering x) none σ))
     did-enter : (p k : ℕ) (ks : List ℕ) → p < n → σ .line p ≡ k ∷ ks → length (σ .buffer p) < slots p →
-        Did σ (enter p) done (push p k ks σ)
+        Did σ (enter (nodeNo p)) done (push p k ks σ)
     -- a message that is not taken passes into the next node's buffer
     did-pass : (p k : ℕ) (ks : List ℕ) → p < n → σ .buffer p ≡ k ∷ ks → next n p ≢ targetIn (σ .phase k) k → next n p ≢ p →
         length (σ .buffer (next n p)) < slots (next n p) → σ .mark (next n p) ≡ false →
-        Did σ (move p) done (pass (next n p) k (pop p ks σ))
+        Did σ (move (nodeNo p)) done (pass (next n p) k (pop p ks σ))
     -- a request reaches its sender node, where no record is offered
     did-ask : (p k : ℕ) (ks : List ℕ) → p < n → σ .buffer p ≡ k ∷ ks → σ .phase k ≡ asking → next n p ≡ sender k →
         σ .offer k ≡ none →
-        Did σ (move p) done (turn k ready none (pop p ks σ))
+        Did σ (move (nodeNo p)) done (turn k ready none (pop p ks σ))
     -- a request reaches its sender node, where record x is offered
     did-respond : (p k : ℕ) (ks : List ℕ) (x : BatchRecord) → p < n → σ .buffer p ≡ k ∷ ks → σ .phase k ≡ asking →
         next n p ≡ sender k → σ .offer k ≡ some x →
-        Did σ (move p) done (join (sender k) k (turn k (answering x) none (pop p ks σ)))
+        Did σ (move (nodeNo p)) done (join (sender k) k (turn k (answering x) none (pop p ks σ)))
     -- a response reaches its receiver node
     did-deliver : (p k : ℕ) (ks : List ℕ) (x : BatchRecord) → p < n → σ .buffer p ≡ k ∷ ks → σ .phase k ≡ answering x →
         next n p ≡ receiver k →
-        Did σ (move p) (delivered k x) (turn k resting (σ .offer k) (pop p ks σ))
+        Did σ (move (nodeNo p)) (delivered (channelNo k) x) (turn k resting (σ .offer k) (pop p ks σ))
 
   -- an entry, or a move, that would be accepted at p
   pub data CanEnter (σ : State) (p : ℕ) : Type 0 where

@@ -11,7 +11,7 @@ use Rattle.network.specs.declared.Answer.the-variants.{Done, Delivered, Hops, W
 use Rattle.network.proofs.Answer.{the-type}
 use Rattle.network.specs.Calls.{deliveryIn}
 use Rattle.network.specs.Answers.{valuesIn}
-use Rattle.report.proofs.Appends.{nothing}
+use Rattle.text.proofs.Appends.{nothing}
 use Rattle.report.proofs.push_delivery.Statement.{statement}
 use Rattle.report.proofs.push_delivery.Tie as tie
 

@@ -2,7 +2,7 @@
 use native.Mathlib.Omega.{arith}
 use borrow.Author.Needs.{needs}
 use Rattle.report.specs.Line.{lineOf}
-use Rattle.report.proofs.Appends.{_then_, up-to}
+use Rattle.text.proofs.Appends.{_then_, up-to}
 use Rattle.report.proofs.push_line.Statement.{statement}
 use Rattle.report.proofs.push_line.Tie as tie
 

@@ -4,7 +4,7 @@ use mir.Syntax.{w16}
 use mir.Val.{SFits}
 use mir.Facts.{toZ-ofZ}
 use Rattle.report.specs.Line.{recordFields}
-use Rattle.report.proofs.Appends.{_then_}
+use Rattle.text.proofs.Appends.{_then_}
 use Rattle.report.proofs.push_record.Statement.{statement}
 use Rattle.report.proofs.push_record.Tie as tie
 

@@ -4,7 +4,7 @@ use native.Mathlib.Omega.{arith}
 use lib.Seq.{length-take-le}
 use borrow.Author.Needs.{needs}
 use Rattle.report.specs.Line.{endOf}
-use Rattle.report.proofs.Appends.{_then_, up-to}
+use Rattle.text.proofs.Appends.{_then_, up-to}
 use Rattle.report.proofs.Room.{built}
 use Rattle.report.proofs.write_end.Statement.{statement}
 use Rattle.report.proofs.write_end.Tie as tie

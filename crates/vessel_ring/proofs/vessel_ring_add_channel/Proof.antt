@@ -1,6 +1,7 @@
 -- `vessel_ring_add_channel` meets its contract: it is a call in place (InPlace.antt) over `by_number::add_channel`. Assumes nothing.
 use mathlib.Core.List.{[], _∷_}
 use Rattle.network.specs.Layout.{stepRing}
+use Rattle.network.specs.Network.{nodeNo}
 use Rattle.network.specs.Runs
 use Rattle.site.proofs.Params.{u8-kind}
 use Rattle.vessel_ring.specs.Answers.{toldOf}
@@ -15,5 +16,5 @@ use Rattle.vessel_ring.proofs.vessel_ring_add_channel.Code as code
 pub vessel-ring-add-channel-spec : {M : Type 1} → statement M
 unfolding code.routine
 vessel-ring-add-channel-spec 𝓤 H 𝓜 𝓖 𝓡 =
-    changes u8-kind told (u8-kind ∷ u8-kind ∷ []) (λ ring a. toldOf (stepRing (Runs.addChannel (a .0) (a .1 .0)) ring)) 𝓤 H 𝓜 𝓖 𝓡
+    changes u8-kind told (u8-kind ∷ u8-kind ∷ []) (λ ring a. toldOf (stepRing (Runs.addChannel (nodeNo (a .0)) (nodeNo (a .1 .0))) ring)) 𝓤 H 𝓜 𝓖 𝓡
     code.env name by-value.name by-value.routine (code.unfolded 𝓤 H 𝓜 𝓡) code.calls-vessel-ring·by-number·add-channel (met 𝓤 H 𝓜 𝓖 𝓡)

@@ -5,6 +5,7 @@ use base.Logic.{emp}
 use contract.Monad.{factI}
 use Rattle.site.proofs.Params.{u8-kind}
 use Rattle.site.proofs.Question.{question}
+use Rattle.network.specs.Network.{channelNo}
 use Rattle.network.specs.Runs
 use Rattle.site.specs.InPlace.{answerTo}
 use Rattle.vessel_ring.specs.Answers.{hopsLeftIn}
@@ -19,6 +20,6 @@ use Rattle.vessel_ring.proofs.vessel_ring_hops_left.Code as code
 pub vessel-ring-hops-left-spec : {M : Type 1} → statement M
 unfolding code.routine
 vessel-ring-hops-left-spec 𝓤 H 𝓜 𝓖 𝓡 =
-    question (u8-kind ∷ []) hops-left (λ ring a. hopsLeftIn (answerTo (Runs.hopsLeft (a .0)) ring)) 𝓤 H 𝓜 𝓖 𝓡
+    question (u8-kind ∷ []) hops-left (λ ring a. hopsLeftIn (answerTo (Runs.hopsLeft (channelNo (a .0))) ring)) 𝓤 H 𝓜 𝓖 𝓡
     (λ κs a. exported.clauses 𝓤 H (𝓖 .A) (𝓜 .mem) (𝓡 .run) κs a .ensures tt) (λ κs a ws. factI 𝓤 _ (emp 𝓤) refl)
     code.env name by-value.name by-value.routine (code.unfolded 𝓤 H 𝓜 𝓡) code.calls-vessel-ring·by-number·hops-left (met 𝓤 H 𝓜 𝓖 𝓡)

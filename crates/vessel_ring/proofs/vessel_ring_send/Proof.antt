@@ -1,6 +1,7 @@
 -- `vessel_ring_send` meets its contract: it is a call in place (InPlace.antt) over `by_number::send`. Assumes nothing.
 use mathlib.Core.List.{[], _∷_}
 use Rattle.network.specs.Layout.{stepRing}
+use Rattle.network.specs.Network.{channelNo}
 use Rattle.network.specs.Runs
 use Rattle.site.proofs.Params.{u8-kind}
 use Rattle.vessel_ring.specs.Answers.{toldOf}
@@ -16,5 +17,5 @@ use Rattle.vessel_ring.proofs.vessel_ring_send.Code as code
 pub vessel-ring-send-spec : {M : Type 1} → statement M
 unfolding code.routine
 vessel-ring-send-spec 𝓤 H 𝓜 𝓖 𝓡 =
-    changes u8-kind told (u8-kind ∷ c-record ∷ []) (λ ring a. toldOf (stepRing (Runs.send (a .0) (recordOf (a .1 .0))) ring)) 𝓤 H 𝓜 𝓖 𝓡
+    changes u8-kind told (u8-kind ∷ c-record ∷ []) (λ ring a. toldOf (stepRing (Runs.send (channelNo (a .0)) (recordOf (a .1 .0))) ring)) 𝓤 H 𝓜 𝓖 𝓡
     code.env name by-value.name by-value.routine (code.unfolded 𝓤 H 𝓜 𝓡) code.calls-vessel-ring·by-number·send (met 𝓤 H 𝓜 𝓖 𝓡)

@@ -1,24 +1,32 @@
--- `soundness::blank::from` meets its contract: the parts that are lent are the rests of the two. Assumes nothing.
-use mathlib.Core.Path.{_≡_}
-use Prim.Native.Nat.{ℕ, _-_}
-use mathlib.Core.List.{List}
+-- `soundness::blank::from` meets its contract: the parts that are lent leave no cell out. Assumes nothing.
+use Prim.Native.Nat.{_+_, _-_, _/_, _≤_}
+use mathlib.Core.Path.{refl}
 use native.Mathlib.Omega.{arith}
-use lib.ListN.{length, take, drop, length-drop}
-use lib.Seq.{take-all}
+use lib.ListN.{length}
 use borrow.Author.Needs.{needs}
+use Rattle.soundness.proofs.Decides.{restated}
+use Rattle.soundness.proofs.Zeros.{halves}
 use Rattle.soundness.proofs.blank.from.Statement.{statement}
 use Rattle.soundness.proofs.blank.from.Tie as tie
 
-rest : (xs : List ℕ) (n : ℕ) → take (length xs - n) (drop n xs) ≡ drop n xs
-rest xs n = take-all (length xs - n) (drop n xs) (omega (arith, length-drop n xs))
-
 returns : tie.Need-returns
 returns c =
-    let given = c .before .before .before .before .before .args in
-    rw (rest (given .first .now) (given .start), rest (given .second .now) (given .start)) at (c .both .ensures)
+    let start = c .before .before .before .before .before .before .before in
+    let given = start .args in
+    let end = length (given .first .now) in
+    let back = given .start + (end - given .start) / 2 in
+    let middle = given .start + (end - back) in
+    let after : given .start ≤ back = omega arith in
+    let no-gap : back ≤ middle = omega (arith, start .pre .1) in
+    let first-halves = halves (given .first .now) (given .start) back middle end refl after no-gap in
+    let second-halves = halves (given .second .now) (given .start) back middle end (start .pre .0) after no-gap in
+    restated
+    (λ parts. (first-halves .0 (parts .0), second-halves .0 (parts .1)))
+    (λ blank. (first-halves .1 (blank .0), second-halves .1 (blank .1))) (c .all-four .ensures)
 
 pub from-spec : {M : Type 1} → statement M
 from-spec =
     tie.close
-    (tie.spec (λ c. search needs) (λ c. search needs) (λ c. search needs) (λ c. search needs) (λ c. search needs)
-    (λ c. search needs) (λ c κs. search needs) returns)
+    (tie.spec (λ c. search needs) (λ c. search needs) (λ c. search needs) (λ c. search needs) (λ c. search needs) (λ c. search needs)
+    (λ c. search needs) (λ c. search needs) (λ c. search needs) (λ c. search needs) (λ c. search needs) (λ c. search needs)
+    (λ c. search needs) (λ c. search needs) (λ c. search needs) (λ c. search needs) (λ c κs. search needs) returns)

@@ -5,7 +5,6 @@ use mathlib.Core.List.{List}
 use native.Mathlib.Omega.{arith}
 use lib.ListN.{getD}
 use borrow.Author.Needs.{needs}
-use Rattle.network.specs.Layout.{channelRoom}
 use Rattle.soundness.specs.Fits.{Stands}
 use Rattle.soundness.proofs.Loops.{Counting, counting-start, counting-turn, counting-end}
 use Rattle.soundness.proofs.messages.all_right.Statement.{statement}
@@ -16,11 +15,11 @@ StandsAt phases senders receivers places k =
     Stands (getD phases k 0) (getD senders k 0) (getD receivers k 0) (getD places k 0)
 
 abbrev Inv-loop : tie.InvT-loop
-Inv-loop phases senders receivers places wrong₀ k₀ wrong k =
-    Counting (StandsAt phases senders receivers places) channelRoom wrong k
+Inv-loop count phases senders receivers places wrong₀ k₀ wrong k =
+    Counting (StandsAt phases senders receivers places) count wrong k
 
 abbrev μ-loop : tie.MeasureT-loop
-μ-loop phases senders receivers places wrong₀ k₀ wrong k = channelRoom - k
+μ-loop count phases senders receivers places wrong₀ k₀ wrong k = count - k
 
 loop-again : tie.Need-loop-again Inv-loop μ-loop
 loop-again c =

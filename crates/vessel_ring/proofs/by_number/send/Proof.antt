@@ -3,6 +3,7 @@ use mathlib.Core.Path.{_∙_, ap}
 use borrow.Author.Needs.{needs}
 use Rattle.batch.specs.declared.BatchRecord.{BatchRecord}
 use Rattle.network.specs.Layout.{stepRing}
+use Rattle.network.specs.Network.{channelNo}
 use Rattle.network.specs.Runs
 use Rattle.vessel_ring.specs.Answers.{toldOf}
 use Rattle.vessel_ring.proofs.by_number.send.Statement.{statement}
@@ -12,7 +13,7 @@ returns : tie.Need-returns
 returns c =
     let args = c .before .before .args in
     c .make .ensures
-    ∙ ap (λ (x : BatchRecord). toldOf (stepRing (Runs.send (args .channel) x) (args .ring))) (c .before .record-of .ensures)
+    ∙ ap (λ (x : BatchRecord). toldOf (stepRing (Runs.send (channelNo (args .channel)) x) (args .ring))) (c .before .record-of .ensures)
 
 pub send-spec : {M : Type 1} → statement M
 send-spec = tie.close (tie.spec (λ c κs. search needs) (λ c κs. search needs) returns)

@@ -1,0 +1,2 @@
+-- Laws about plain numbers that the crates above share.
+pub mod Splits

@@ -1,7 +1,0 @@
--- `report::text::name_end` meets its contract: by the test. Assumes nothing.
-use native.Mathlib.Omega.{arith}
-use Rattle.report.proofs.text.name_end.Statement.{statement}
-use Rattle.report.proofs.text.name_end.Tie as tie
-
-pub name-end-spec : {M : Type 1} → statement M
-name-end-spec = tie.close (tie.spec (λ c. omega arith) (λ c. omega arith))
