@@ -7,9 +7,13 @@ use mir.Syntax.{Name, Place, Opd as Operand, Body as Code, seq, call}
 use mir.Val.{Val}
 use base.Logic.{SProp, ent, sep, emp, id⊢, snd∗, exE}
 use base.Fml.{ftrue}
+use prog.Model.{Model}
+use prog.Routine.{Routine}
 use prog.Wp.{Heap, Calls, Loops}
 use ghost.Atoms.{Atoms, sem}
-use contract.Monad.{fact}
+use contract.Lifetimes.{Lfts}
+use contract.Monad.{fact, fm→mono}
+use contract.Running.{GhostRules, Running, givenOf}
 use types.Kit.{Given, Item, Post, Sq, Go, runs, lands, ‵, raw, _⊛_, some, later, _$_, _∵_, !, qed, move, drop, use1, use2, split, join, pick, fjoin, await, done}
 use types.Run.{Opds}
 use sound.WpLaws.{FmC}
@@ -20,8 +24,11 @@ use denote.Steps.{peeks, heard, nothing}
 use denote.Exit.{yes}
 use denote.Triple.Statement.{Contract, Triple}
 use denote.Triple.Call.{calls-at}
-use denote.Triple.Spec.{tripleOf}
-use denote.Triple.Clauses.{Ended, Clauses, closing, ensured, lasts}
+use denote.Triple.Entry.{Args}
+use denote.Triple.Spec.{Meets, tripleOf}
+use denote.Triple.Table.{run-framed}
+use denote.Triple.Weaken.{weaken}
+use denote.Triple.Clauses.{Ended, Clauses, AtExit, closing, ensured, lasts}
 use Rattle.network.specs.declared.Ring.{Ring}
 use Rattle.network.proofs.Ring as R
 use Rattle.site.proofs.Values.{ring-vals}
@@ -76,3 +83,17 @@ module _ (X : RattleType) (ps : List Kind) (F : Ring → Values ps → X .Denot)
             use1 W (later (some (λ (r : X .Denot). (‵ ftrue ⊛ ‵ (X .own r (v ∷ []))) ⊛ raw (Ensured r)))) (id⊢ 𝓤 _) $ await ! tt $
             pick ! (λ r. split ! $ move ! (1 ∷ []) $ use1 W (raw (fact 𝓤 (r ≡ F h x))) (said-of r) $ heard ! (r ≡ F h x) (λ e.
             split ! $ drop ! $ peeks ! X (Is X) (shows 𝓤 H A X) r (v ∷ []) (λ is. k v r e is))))
+
+  module _ {M : Type 1} (𝓤 : URA M) (H : Heap 𝓤) where
+    -- a call by value whose contract says more: E, from which what F says follows
+    pub says-more :
+        (𝓜 : Model 𝓤 H) (𝓖 : GhostRules 𝓤 H) (𝓡 : Running 𝓤 H 𝓜) (callee : Routine)
+        (E : (κs : Lfts 0) → Args (Called .signature) κs → X .Denot → AtExit Called κs → SProp 𝓤) →
+        ((κs : Lfts 0) (a : Args (Called .signature) κs) (r : X .Denot) (e : AtExit Called κs) → ent 𝓤 (E κs a r e) (fact 𝓤 (r ≡ F (a .0) (a .1)))) →
+        Meets 𝓤 H (𝓖 .A) (Called .signature) (𝓡 .run callee)
+        (closing 𝓤 H (𝓖 .A) Called (λ κs a. record { ghost = Unit {0}; requires = λ _. emp 𝓤; ensures = λ _. E κs a })) →
+        Triple 𝓤 (𝓡 .run callee) (CallOf 𝓤 H (𝓖 .A))
+    says-more 𝓜 𝓖 𝓡 callee E so =
+        weaken 𝓤 H (𝓖 .A) Called (givenOf 𝓤 H 𝓜 𝓖) (λ κs a. record { ghost = Unit {0}; requires = λ _. emp 𝓤; ensures = λ _. E κs a })
+        (λ κs a _ r _. fact 𝓤 (r ≡ F (a .0) (a .1))) (λ κs a _ r ws. so κs a r _)
+        (𝓡 .run callee) (λ vs. fm→mono 𝓤 _ (run-framed 𝓤 H 𝓜 𝓡 callee vs))
