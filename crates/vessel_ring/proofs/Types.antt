@@ -6,18 +6,18 @@ use denote.Plain.{uint-makes}
 use denote.Struct.Laws as LL
 use Rattle.site.proofs.Params.{Kind, u8-kind, struct-kind}
 use Rattle.site.proofs.Walk.{Paired}
-use Rattle.vessel_ring.proofs.Record as R
-use Rattle.vessel_ring.proofs.Record.Laws as R′
-use Rattle.vessel_ring.proofs.Delivery as D
-use Rattle.vessel_ring.proofs.Delivery.Laws as D′
-use Rattle.vessel_ring.proofs.HopsLeft as H
-use Rattle.vessel_ring.proofs.HopsLeft.Laws as H′
-use Rattle.vessel_ring.proofs.Waiting as W
-use Rattle.vessel_ring.proofs.Waiting.Laws as W′
-use Rattle.vessel_ring.proofs.by_number.Told as T
-use Rattle.vessel_ring.proofs.by_number.Told.Laws as T′
-use Rattle.vessel_ring.proofs.by_number.Moved as M
-use Rattle.vessel_ring.proofs.by_number.Moved.Laws as M′
+use Rattle.by_number.proofs.Record as R
+use Rattle.by_number.proofs.Record.Laws as R′
+use Rattle.by_number.proofs.Delivery as D
+use Rattle.by_number.proofs.Delivery.Laws as D′
+use Rattle.by_number.proofs.HopsLeft as H
+use Rattle.by_number.proofs.HopsLeft.Laws as H′
+use Rattle.by_number.proofs.Waiting as W
+use Rattle.by_number.proofs.Waiting.Laws as W′
+use Rattle.by_number.proofs.Told as T
+use Rattle.by_number.proofs.Told.Laws as T′
+use Rattle.by_number.proofs.Moved as M
+use Rattle.by_number.proofs.Moved.Laws as M′
 
 abbrev pub c-record : Kind
 c-record = struct-kind R.the-type R′.the-laws R′.the-copy

@@ -1,4 +1,1 @@
-pub mod Answers
-pub mod Commands
 pub mod Listed
-pub mod Records

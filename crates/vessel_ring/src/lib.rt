@@ -12,10 +12,14 @@
 // - its prototype in the header, and its arm in tests/calls.
 //
 // One more command of the tape takes nothing here: `commands` reads the tape's own table.
-mod by_number;
-mod commands;
-mod records;
-
+use by_number::Command;
+use by_number::Delivery;
+use by_number::HopsLeft;
+use by_number::Reading;
+use by_number::Record;
+use by_number::Waiting;
+use by_number::Writing;
+use by_number::commands;
 use network::Ring;
 use runner::Session;
 ghost use mathlib.Core.Path.{_≡_};
@@ -25,68 +29,10 @@ ghost use Rattle.network.specs.Network.{nodeNo, channelNo};
 ghost use Rattle.network.specs.Runs;
 ghost use Rattle.site.specs.InPlace.{ringAfter, answerTo};
 ghost use Rattle.tape.specs.Tape.{readAt};
-ghost use Rattle.vessel_ring.specs.Answers.{numberTo, deliveryTo, hopsLeftIn, waitingIn};
-ghost use Rattle.vessel_ring.specs.Commands.{readingIn, writingTo, afterWriting};
+ghost use Rattle.by_number.specs.Answers.{numberTo, deliveryTo, hopsLeftIn, waitingIn};
+ghost use Rattle.by_number.specs.Commands.{readingIn, writingTo, afterWriting};
 ghost use Rattle.vessel_ring.specs.Listed.{Listed};
-ghost use Rattle.vessel_ring.specs.Records.{recordOf};
-
-// A batch record for C, its fields in an order that leaves no padding.
-#[repr(C)]
-pub struct Record {
-    pub batch: u32,
-    pub vessel: u8,
-    pub name_length: u8,
-    pub temperature: i16,
-    pub name: [u8; 32],
-}
-
-// What a move answers. `delivered` is 1 where it delivered; elsewhere the channel and the record are zero.
-#[repr(C)]
-pub struct Delivery {
-    pub refusal: u8,
-    pub delivered: u8,
-    pub channel: u8,
-    pub record: Record,
-}
-
-#[repr(C)]
-pub struct HopsLeft {
-    pub refusal: u8,
-    pub hops: u8,
-}
-
-// The channels on which a node's tasks wait, channel 0 being the lowest bit, and how many they are.
-#[repr(C)]
-pub struct Waiting {
-    pub set: u64,
-    pub tasks: u32,
-    pub refusal: u8,
-}
-
-// A command of the tape: its command byte, its operands of one byte, and the record of a send. What it does not have is zero.
-#[repr(C)]
-pub struct Command {
-    pub code: u8,
-    pub first: u8,
-    pub second: u8,
-    pub record: Record,
-}
-
-// What stands at a place of the tape: a refusal, the end, or a command and the place after it.
-#[repr(C)]
-pub struct Reading {
-    pub next: usize,
-    pub refusal: u8,
-    pub end: u8,
-    pub command: Command,
-}
-
-// The place after the command that was written, or the refusal.
-#[repr(C)]
-pub struct Writing {
-    pub next: usize,
-    pub refusal: u8,
-}
+ghost use Rattle.by_number.specs.Records.{recordOf};
 
 #[no_mangle]
 pub extern "C" fn vessel_ring_fresh() -> Ring

@@ -8,10 +8,10 @@ use Rattle.site.proofs.Question.{question}
 use Rattle.network.specs.Network.{channelNo}
 use Rattle.network.specs.Runs
 use Rattle.site.specs.InPlace.{answerTo}
-use Rattle.vessel_ring.specs.Answers.{hopsLeftIn}
+use Rattle.by_number.specs.Answers.{hopsLeftIn}
 use Rattle.vessel_ring.proofs.Types.{hops-left}
-use Rattle.vessel_ring.proofs.by_number.hops_left.Symbol as by-value
-use Rattle.vessel_ring.proofs.by_number.hops_left.Met.{met}
+use Rattle.by_number.proofs.hops_left.Symbol as by-value
+use Rattle.by_number.proofs.hops_left.Met.{met}
 use Rattle.vessel_ring.proofs.vessel_ring_hops_left as exported
 use Rattle.vessel_ring.proofs.vessel_ring_hops_left.Key.{name}
 use Rattle.vessel_ring.proofs.vessel_ring_hops_left.Statement.{statement}
@@ -22,4 +22,4 @@ unfolding code.routine
 vessel-ring-hops-left-spec 𝓤 H 𝓜 𝓖 𝓡 =
     question (u8-kind ∷ []) hops-left (λ ring a. hopsLeftIn (answerTo (Runs.hopsLeft (channelNo (a .0))) ring)) 𝓤 H 𝓜 𝓖 𝓡
     (λ κs a. exported.clauses 𝓤 H (𝓖 .A) (𝓜 .mem) (𝓡 .run) κs a .ensures tt) (λ κs a ws. factI 𝓤 _ (emp 𝓤) refl)
-    code.env name by-value.name by-value.routine (code.unfolded 𝓤 H 𝓜 𝓡) code.calls-vessel-ring·by-number·hops-left (met 𝓤 H 𝓜 𝓖 𝓡)
+    code.env name by-value.name by-value.routine (code.unfolded 𝓤 H 𝓜 𝓡) code.calls-by-number·hops-left (met 𝓤 H 𝓜 𝓖 𝓡)

@@ -7,8 +7,8 @@ use Rattle.site.proofs.Params.{u8-kind}
 use Rattle.site.proofs.Question.{question}
 use Rattle.network.specs.Counting.{one}
 use Rattle.network.specs.Layout.{soundRing}
-use Rattle.vessel_ring.proofs.by_number.is_sound.Symbol as by-value
-use Rattle.vessel_ring.proofs.by_number.is_sound.Met.{met}
+use Rattle.by_number.proofs.is_sound.Symbol as by-value
+use Rattle.by_number.proofs.is_sound.Met.{met}
 use Rattle.vessel_ring.proofs.vessel_ring_is_sound as exported
 use Rattle.vessel_ring.proofs.vessel_ring_is_sound.Key.{name}
 use Rattle.vessel_ring.proofs.vessel_ring_is_sound.Statement.{statement}
@@ -19,4 +19,4 @@ unfolding code.routine
 vessel-ring-is-sound-spec 𝓤 H 𝓜 𝓖 𝓡 =
     question [] u8-kind (λ ring a. one (soundRing ring)) 𝓤 H 𝓜 𝓖 𝓡
     (λ κs a. exported.clauses 𝓤 H (𝓖 .A) (𝓜 .mem) (𝓡 .run) κs a .ensures tt) (λ κs a ws. factI 𝓤 _ (emp 𝓤) refl)
-    code.env name by-value.name by-value.routine (code.unfolded 𝓤 H 𝓜 𝓡) code.calls-vessel-ring·by-number·is-sound (met 𝓤 H 𝓜 𝓖 𝓡)
+    code.env name by-value.name by-value.routine (code.unfolded 𝓤 H 𝓜 𝓡) code.calls-by-number·is-sound (met 𝓤 H 𝓜 𝓖 𝓡)

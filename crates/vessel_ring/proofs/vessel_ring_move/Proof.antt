@@ -4,11 +4,11 @@ use Rattle.network.specs.Layout.{stepRing}
 use Rattle.network.specs.Network.{nodeNo}
 use Rattle.network.specs.Runs
 use Rattle.site.proofs.Params.{u8-kind}
-use Rattle.vessel_ring.specs.Answers.{movedOf}
+use Rattle.by_number.specs.Answers.{movedOf}
 use Rattle.vessel_ring.proofs.InPlace.{changes}
 use Rattle.vessel_ring.proofs.Types.{delivery, moved}
-use Rattle.vessel_ring.proofs.by_number.move_on.Symbol as by-value
-use Rattle.vessel_ring.proofs.by_number.move_on.Met.{met}
+use Rattle.by_number.proofs.move_on.Symbol as by-value
+use Rattle.by_number.proofs.move_on.Met.{met}
 use Rattle.vessel_ring.proofs.vessel_ring_move.Key.{name}
 use Rattle.vessel_ring.proofs.vessel_ring_move.Statement.{statement}
 use Rattle.vessel_ring.proofs.vessel_ring_move.Code as code
@@ -17,4 +17,4 @@ pub vessel-ring-move-spec : {M : Type 1} → statement M
 unfolding code.routine
 vessel-ring-move-spec 𝓤 H 𝓜 𝓖 𝓡 =
     changes delivery moved (u8-kind ∷ []) (λ ring a. movedOf (stepRing (Runs.move (nodeNo (a .0))) ring)) 𝓤 H 𝓜 𝓖 𝓡
-    code.env name by-value.name by-value.routine (code.unfolded 𝓤 H 𝓜 𝓡) code.calls-vessel-ring·by-number·move-on (met 𝓤 H 𝓜 𝓖 𝓡)
+    code.env name by-value.name by-value.routine (code.unfolded 𝓤 H 𝓜 𝓡) code.calls-by-number·move-on (met 𝓤 H 𝓜 𝓖 𝓡)

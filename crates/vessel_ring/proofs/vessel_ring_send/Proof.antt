@@ -4,12 +4,12 @@ use Rattle.network.specs.Layout.{stepRing}
 use Rattle.network.specs.Network.{channelNo}
 use Rattle.network.specs.Runs
 use Rattle.site.proofs.Params.{u8-kind}
-use Rattle.vessel_ring.specs.Answers.{toldOf}
-use Rattle.vessel_ring.specs.Records.{recordOf}
+use Rattle.by_number.specs.Answers.{toldOf}
+use Rattle.by_number.specs.Records.{recordOf}
 use Rattle.vessel_ring.proofs.InPlace.{changes}
 use Rattle.vessel_ring.proofs.Types.{c-record, told}
-use Rattle.vessel_ring.proofs.by_number.send.Symbol as by-value
-use Rattle.vessel_ring.proofs.by_number.send.Met.{met}
+use Rattle.by_number.proofs.send.Symbol as by-value
+use Rattle.by_number.proofs.send.Met.{met}
 use Rattle.vessel_ring.proofs.vessel_ring_send.Key.{name}
 use Rattle.vessel_ring.proofs.vessel_ring_send.Statement.{statement}
 use Rattle.vessel_ring.proofs.vessel_ring_send.Code as code
@@ -18,4 +18,4 @@ pub vessel-ring-send-spec : {M : Type 1} → statement M
 unfolding code.routine
 vessel-ring-send-spec 𝓤 H 𝓜 𝓖 𝓡 =
     changes u8-kind told (u8-kind ∷ c-record ∷ []) (λ ring a. toldOf (stepRing (Runs.send (channelNo (a .0)) (recordOf (a .1 .0))) ring)) 𝓤 H 𝓜 𝓖 𝓡
-    code.env name by-value.name by-value.routine (code.unfolded 𝓤 H 𝓜 𝓡) code.calls-vessel-ring·by-number·send (met 𝓤 H 𝓜 𝓖 𝓡)
+    code.env name by-value.name by-value.routine (code.unfolded 𝓤 H 𝓜 𝓡) code.calls-by-number·send (met 𝓤 H 𝓜 𝓖 𝓡)

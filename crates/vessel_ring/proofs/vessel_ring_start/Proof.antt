@@ -3,11 +3,11 @@ use mathlib.Core.List.{[]}
 use Rattle.network.specs.Layout.{stepRing}
 use Rattle.network.specs.Runs
 use Rattle.site.proofs.Params.{u8-kind}
-use Rattle.vessel_ring.specs.Answers.{toldOf}
+use Rattle.by_number.specs.Answers.{toldOf}
 use Rattle.vessel_ring.proofs.InPlace.{changes}
 use Rattle.vessel_ring.proofs.Types.{told}
-use Rattle.vessel_ring.proofs.by_number.start.Symbol as by-value
-use Rattle.vessel_ring.proofs.by_number.start.Met.{met}
+use Rattle.by_number.proofs.start.Symbol as by-value
+use Rattle.by_number.proofs.start.Met.{met}
 use Rattle.vessel_ring.proofs.vessel_ring_start.Key.{name}
 use Rattle.vessel_ring.proofs.vessel_ring_start.Statement.{statement}
 use Rattle.vessel_ring.proofs.vessel_ring_start.Code as code
@@ -16,4 +16,4 @@ pub vessel-ring-start-spec : {M : Type 1} → statement M
 unfolding code.routine
 vessel-ring-start-spec 𝓤 H 𝓜 𝓖 𝓡 =
     changes u8-kind told [] (λ ring a. toldOf (stepRing Runs.start ring)) 𝓤 H 𝓜 𝓖 𝓡
-    code.env name by-value.name by-value.routine (code.unfolded 𝓤 H 𝓜 𝓡) code.calls-vessel-ring·by-number·start (met 𝓤 H 𝓜 𝓖 𝓡)
+    code.env name by-value.name by-value.routine (code.unfolded 𝓤 H 𝓜 𝓡) code.calls-by-number·start (met 𝓤 H 𝓜 𝓖 𝓡)

@@ -8,10 +8,10 @@ use Rattle.site.proofs.Question.{question}
 use Rattle.network.specs.Network.{nodeNo}
 use Rattle.network.specs.Runs
 use Rattle.site.specs.InPlace.{answerTo}
-use Rattle.vessel_ring.specs.Answers.{waitingIn}
+use Rattle.by_number.specs.Answers.{waitingIn}
 use Rattle.vessel_ring.proofs.Types.{waiting}
-use Rattle.vessel_ring.proofs.by_number.waiting_set.Symbol as by-value
-use Rattle.vessel_ring.proofs.by_number.waiting_set.Met.{met}
+use Rattle.by_number.proofs.waiting_set.Symbol as by-value
+use Rattle.by_number.proofs.waiting_set.Met.{met}
 use Rattle.vessel_ring.proofs.vessel_ring_waiting_set as exported
 use Rattle.vessel_ring.proofs.vessel_ring_waiting_set.Key.{name}
 use Rattle.vessel_ring.proofs.vessel_ring_waiting_set.Statement.{statement}
@@ -22,4 +22,4 @@ unfolding code.routine
 vessel-ring-waiting-set-spec 𝓤 H 𝓜 𝓖 𝓡 =
     question (u8-kind ∷ []) waiting (λ ring a. waitingIn (answerTo (Runs.waitingSet (nodeNo (a .0))) ring)) 𝓤 H 𝓜 𝓖 𝓡
     (λ κs a. exported.clauses 𝓤 H (𝓖 .A) (𝓜 .mem) (𝓡 .run) κs a .ensures tt) (λ κs a ws. factI 𝓤 _ (emp 𝓤) refl)
-    code.env name by-value.name by-value.routine (code.unfolded 𝓤 H 𝓜 𝓡) code.calls-vessel-ring·by-number·waiting-set (met 𝓤 H 𝓜 𝓖 𝓡)
+    code.env name by-value.name by-value.routine (code.unfolded 𝓤 H 𝓜 𝓡) code.calls-by-number·waiting-set (met 𝓤 H 𝓜 𝓖 𝓡)

@@ -1,0 +1,1 @@
+-- No law of this crate is shared: its proofs stand by their functions.
