@@ -42,7 +42,8 @@ pub fn receive(
         return refuse(head, refusal);
     }
     let k = channel.0 as usize;
-    if head.phases[k] != Ring::RESTING {
+    let phase = head.phases[k];
+    if phase != Ring::RESTING {
         return refuse(head, Refusal::NotResting);
     }
     head.phases[k] = Ring::ASKING;
@@ -76,10 +77,12 @@ pub fn send(
         return refuse(head, refusal);
     }
     let k = channel.0 as usize;
-    if head.offered[k] != 0 {
+    let offered = head.offered[k];
+    if offered != 0 {
         return refuse(head, Refusal::AlreadyOffered);
     }
-    if head.phases[k] == Ring::READY {
+    let phase = head.phases[k];
+    if phase == Ring::READY {
         let answering = updates::respond(head, lines, carried, channel.0, record);
         return accept(answering);
     }

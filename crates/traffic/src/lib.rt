@@ -70,7 +70,8 @@ pub fn enter_at(
     if waiting == 0 {
         return refuse(head, Refusal::LineEmpty);
     }
-    if head.capacity[p] <= used {
+    let capacity = head.capacity[p];
+    if capacity <= used {
         return refuse(head, Refusal::NoFreeSlot);
     }
     let first = lines[network::ROW * p];
@@ -122,7 +123,8 @@ pub fn move_at(
 {
     let here = node.0;
     let p = here as usize;
-    if head.used[p] == 0 {
+    let used = head.used[p];
+    if used == 0 {
         return refuse(head, Refusal::BufferEmpty);
     }
     let cell = slots[network::ROW * p];
@@ -182,7 +184,8 @@ fn take(
     let channel = cell - 1;
     let k = channel as usize;
     let mut left = updates::leave(head, slots, p as usize);
-    if left.offered[k] == 0 {
+    let offered = left.offered[k];
+    if offered == 0 {
         left.phases[k] = Ring::READY;
         return accept(left);
     }
@@ -241,10 +244,13 @@ fn pass(
         (ringIn head (now (slots .entry)) (now (lines .entry)) (now (offers .entry)) (now (carried .entry)))) ⌝ }
 {
     let q = next as usize;
-    if head.capacity[q] <= head.used[q] {
+    let capacity = head.capacity[q];
+    let held = head.used[q];
+    if capacity <= held {
         return refuse(head, Refusal::NextBufferFull);
     }
-    if head.marks[q] != 0 {
+    let mark = head.marks[q];
+    if mark != 0 {
         return refuse(head, Refusal::TurnMarkSet);
     }
     let mut left = updates::leave(head, slots, p as usize);

@@ -35,8 +35,8 @@ there c = c .before .before .before
 abbrev rests : tie.After-struct-known2 → tie.Else1
 rests c = c .before .before .before
 
-element-copy-out-if1 : tie.Need-element-copy-out-if1
-element-copy-out-if1 c = channel-within (at-channel (c .before))
+element-copy-out-phase : tie.Need-element-copy-out-phase
+element-copy-out-phase c = channel-within (at-channel (c .before))
 
 returns-2 : tie.Need-returns-2
 returns-2 c = refuses _ (receive-busy (at-channel (c .before .before .before .before)) (c .before .if1 .taken)) (c .refuse2 .ensures)
@@ -66,5 +66,5 @@ pub receive-spec : {M : Type 1} → statement M
 receive-spec =
     tie.close
     (tie.spec (λ c κs. search needs) (λ c. search needs) (λ c κs. search needs) returns (λ c. search needs) (λ c. search needs)
-    element-copy-out-if1 (λ c κs. search needs) returns-2 element-write-head element-copy-out-receiver cast-receiver add-join join-requires
+    element-copy-out-phase (λ c κs. search needs) returns-2 element-write-head element-copy-out-receiver cast-receiver add-join join-requires
     (λ c κs. search needs) returns-3)

@@ -63,8 +63,8 @@ module _ (c : tie.After-struct-known) where
   known : AtChannel (given (there .before .before)) (start (there .before .before) .args .channel .0)
   known = at-channel there
 
-element-copy-out-if1 : tie.Need-element-copy-out-if1
-element-copy-out-if1 c = channel-within (known c)
+element-copy-out-offered : tie.Need-element-copy-out-offered
+element-copy-out-offered c = channel-within (known c)
 
 returns-3 : tie.Need-returns-3
 returns-3 c =
@@ -75,8 +75,8 @@ returns-3 c =
 abbrev fine : tie.Else1 → tie.After-struct-known
 fine c = c .before .before
 
-element-copy-out-if2 : tie.Need-element-copy-out-if2
-element-copy-out-if2 c = channel-within (known (fine c))
+element-copy-out-phase : tie.Need-element-copy-out-phase
+element-copy-out-phase c = channel-within (known (fine c))
 
 -- the channel waits for the record, which goes out as the response
 respond-requires : tie.Need-respond-requires
@@ -113,6 +113,6 @@ pub send-spec : {M : Type 1} → statement M
 send-spec =
     tie.close
     (tie.spec (λ c κs. search needs) (λ c. search needs) (λ c κs. search needs) returns (λ c. search needs) (λ c κs. search needs)
-    (λ c. search needs) (λ c κs. search needs) returns-2 (λ c. search needs) (λ c. search needs) element-copy-out-if1 (λ c κs. search needs)
-    returns-3 element-copy-out-if2 respond-requires (λ c κs. search needs) returns-4 set-record-requires element-write-head
+    (λ c. search needs) (λ c κs. search needs) returns-2 (λ c. search needs) (λ c. search needs) element-copy-out-offered (λ c κs. search needs)
+    returns-3 element-copy-out-phase respond-requires (λ c κs. search needs) returns-4 set-record-requires element-write-head
     (λ c κs. search needs) returns-5)

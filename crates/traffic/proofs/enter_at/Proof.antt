@@ -21,8 +21,8 @@ element-copy-out-used c = node-within (c .before .pre)
 element-copy-out-waiting : tie.Need-element-copy-out-waiting
 element-copy-out-waiting c = node-within (c .before .before .pre)
 
-element-copy-out-if2 : tie.Need-element-copy-out-if2
-element-copy-out-if2 c = node-within (start (c .before) .pre)
+element-copy-out-capacity : tie.Need-element-copy-out-capacity
+element-copy-out-capacity c = node-within (start (c .before) .pre)
 
 element-copy-out-first : tie.Need-element-copy-out-first
 element-copy-out-first c = row-within (start (waits c .before) .pre)
@@ -78,6 +78,6 @@ returns-3 c =
 pub enter-at-spec : {M : Type 1} → statement M
 enter-at-spec =
     tie.close
-    (tie.spec (λ c. search needs) element-copy-out-used element-copy-out-waiting (λ c κs. search needs) returns element-copy-out-if2
+    (tie.spec (λ c. search needs) element-copy-out-used element-copy-out-waiting (λ c κs. search needs) returns element-copy-out-capacity
     (λ c κs. search needs) returns-2 (λ c. search needs) element-copy-out-first put-requires cut-requires add-head element-write-head
     (λ c. search needs) element-write-head-2 element-write-head-3 (λ c κs. search needs) returns-3)

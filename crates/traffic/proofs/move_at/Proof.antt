@@ -40,8 +40,8 @@ next-is : (c : tie.After-target-of) → next-known c .next-node .result
     ≡ next (given (some c) .head .«node_count») (start (some c) .args .node .0)
 next-is c = next-known c .next-node .ensures
 
-element-copy-out-if1 : tie.Need-element-copy-out-if1
-element-copy-out-if1 c = node-within (c .pre)
+element-copy-out-used : tie.Need-element-copy-out-used
+element-copy-out-used c = node-within (c .pre)
 
 returns : tie.Need-returns
 returns c = refuses _ (move-empty (c .before .before .before .pre) (c .before .if1 .taken)) (c .refuse .ensures)
@@ -100,6 +100,6 @@ deliver-requires c κs =
 pub move-at-spec : {M : Type 1} → statement M
 move-at-spec =
     tie.close
-    (tie.spec (λ c. search needs) element-copy-out-if1 (λ c κs. search needs) returns (λ c. search needs) element-copy-out-cell sub-k
+    (tie.spec (λ c. search needs) element-copy-out-used (λ c κs. search needs) returns (λ c. search needs) element-copy-out-cell sub-k
     cast-k next-node-requires element-copy-out-phase element-copy-out-sender element-copy-out-receiver (λ c κs. search needs)
     pass-requires (λ c. search needs) take-requires (λ c. search needs) deliver-requires (λ c. search needs))

@@ -10,7 +10,7 @@ use Rattle.traffic.proofs.pass.Statement.{statement}
 use Rattle.traffic.proofs.pass.Tie as tie
 
 -- the start, from where the slots were compared and from where both tests passed
-abbrev compared : tie.After-if13 → tie.Start
+abbrev compared : tie.After-held → tie.Start
 compared c = c .before .before
 
 abbrev free : tie.Else2 → tie.Else1
@@ -26,17 +26,17 @@ clear c = c .before .before
 abbrev gone : tie.After-put → tie.After-leave
 gone c = c .before .before .before
 
-element-copy-out-if1 : tie.Need-element-copy-out-if1
-element-copy-out-if1 c = pass-within (c .pre)
+element-copy-out-capacity : tie.Need-element-copy-out-capacity
+element-copy-out-capacity c = pass-within (c .pre)
 
-element-copy-out-if1-2 : tie.Need-element-copy-out-if1-2
-element-copy-out-if1-2 c = pass-within (c .before .pre)
+element-copy-out-held : tie.Need-element-copy-out-held
+element-copy-out-held c = pass-within (c .before .pre)
 
 returns : tie.Need-returns
 returns c = refuses _ (pass-full (compared (c .before .before) .pre) (c .before .if1 .taken)) (c .refuse .ensures)
 
-element-copy-out-if2 : tie.Need-element-copy-out-if2
-element-copy-out-if2 c = pass-within (compared (c .before) .pre)
+element-copy-out-mark : tie.Need-element-copy-out-mark
+element-copy-out-mark c = pass-within (compared (c .before) .pre)
 
 returns-2 : tie.Need-returns-2
 returns-2 c =
@@ -87,6 +87,6 @@ returns-3 c =
 pub pass-spec : {M : Type 1} → statement M
 pass-spec =
     tie.close
-    (tie.spec element-copy-out-if1 element-copy-out-if1-2 (λ c κs. search needs) returns element-copy-out-if2 (λ c κs. search needs)
+    (tie.spec element-copy-out-capacity element-copy-out-held (λ c κs. search needs) returns element-copy-out-mark (λ c κs. search needs)
     returns-2 leave-requires element-copy-out-used put-requires add-left element-write-left element-copy-out-mark-after
     element-copy-out-mark-after-2 (λ c κs. search needs) element-write-left-2 (λ c κs. search needs) returns-3)

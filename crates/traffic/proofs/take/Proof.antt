@@ -8,7 +8,7 @@ use Rattle.traffic.proofs.take.Tie as tie
 abbrev start : tie.After-leave → tie.Start
 start c = c .before .before
 
-abbrev gone : tie.After-if12 → tie.After-leave
+abbrev gone : tie.After-offered → tie.After-leave
 gone c = c .before
 
 abbrev has : tie.After-clear-record → tie.Else1
@@ -20,8 +20,8 @@ sub-channel c = cell-used (c .pre .leaves)
 leave-requires : tie.Need-leave-requires
 leave-requires c κs = (leave-room (c .before .pre .leaves), slots-whole (c .before .pre .leaves))
 
-element-copy-out-if1 : tie.Need-element-copy-out-if1
-element-copy-out-if1 c = cell-within (start c .pre .leaves)
+element-copy-out-offered : tie.Need-element-copy-out-offered
+element-copy-out-offered c = cell-within (start c .pre .leaves)
 
 element-write-left : tie.Need-element-write-left
 element-write-left c = cell-within (start (gone (c .before)) .pre .leaves)
@@ -62,5 +62,5 @@ returns-2 c =
 pub take-spec : {M : Type 1} → statement M
 take-spec =
     tie.close
-    (tie.spec sub-channel (λ c. search needs) leave-requires element-copy-out-if1 element-write-left (λ c κs. search needs) returns
+    (tie.spec sub-channel (λ c. search needs) leave-requires element-copy-out-offered element-write-left (λ c κs. search needs) returns
     record-of-requires clear-record-requires element-write-left-2 respond-requires (λ c κs. search needs) returns-2)
