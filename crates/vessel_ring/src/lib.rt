@@ -5,13 +5,13 @@
 //
 // One more call on the ring takes
 //
-// - its function in `by_number`, which makes the call by its name; where C is told no more than the refusal it needs no proof;
+// - its function in `by_number`, which makes the call by its name;
 // - the exported function here, three lines and its contract, with a proof that names the two functions, the operands and the call
 //   (`proofs/InPlace.antt` has the argument); a question is one line, by `Question.antt` of `site`;
-// - where its answer has a value that no other has, a field of `Said` and of the struct that it answers;
+// - where its answer has a value that no other has, a field of `Said` of `by_number` and of the struct that it answers;
 // - its prototype in the header, and its arm in tests/calls.
 //
-// One more command of the tape takes nothing here: `commands` reads the tape's own table.
+// One more command of the tape takes nothing here: `commands` of `by_number` reads the tape's own table.
 use by_number::Command;
 use by_number::Delivery;
 use by_number::HopsLeft;
