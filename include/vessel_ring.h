@@ -41,7 +41,7 @@ extern "C" {
 #define VESSEL_NAME 32
 #define VESSEL_RECORD_BYTES 40 /* of a record as bytes, on a tape and in the ring */
 #define VESSEL_LINE_ROOM 160   /* room for any line of a listing */
-#define VESSEL_STACK 32768    /* 23,960 bytes were measured, in a move */
+#define VESSEL_STACK 32768    /* 23,736 bytes were measured, in a move */
 
 /* The refusals. Document 01 has the order in which each call tests them; docs/REFUSALS.md has it as a table. */
 enum vessel_refusal {

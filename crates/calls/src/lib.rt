@@ -8,6 +8,8 @@ use network::HeadStep;
 use network::Records;
 use network::Reply;
 use network::RingCall;
+use numbers::ChannelNo;
+use numbers::NodeNo;
 use plan::add_channel;
 use plan::add_node;
 use plan::start;
@@ -21,6 +23,7 @@ ghost use mathlib.Core.Path.{_≡_};
 ghost use Rattle.batch.specs.Blank.{noRecord};
 ghost use Rattle.network.specs.Answers.{callOf, stepOf};
 ghost use Rattle.network.specs.Layout.{callRing, ringIn, stepIn};
+ghost use Rattle.network.specs.Runs;
 
 // A question leaves the ring as it is, and no record stands beside its answer.
 fn asked(head: Head, answer: Answer) -> HeadStep
@@ -29,6 +32,41 @@ fn asked(head: Head, answer: Answer) -> HeadStep
     let delivered = BatchRecord::none();
     let reply = Reply { answer, delivered };
     HeadStep { head, reply }
+}
+
+// The two questions as calls.
+fn ask_hops(
+    head: Head,
+    slots: &Cells,
+    lines: &Cells,
+    offers: &Records,
+    carried: &Records,
+    channel: ChannelNo,
+) -> HeadStep
+    ensures { λ r. ⌜ stepIn r (now (slots .entry)) (now (lines .entry)) (now (offers .entry)) (now (carried .entry))
+        ≡ stepOf (ringIn head (now (slots .entry)) (now (lines .entry)) (now (offers .entry)) (now (carried .entry)))
+        (callRing (Runs.hopsLeft channel)
+        (ringIn head (now (slots .entry)) (now (lines .entry)) (now (offers .entry)) (now (carried .entry)))) ⌝ }
+{
+    let answer = hops_left(head, slots, lines, offers, carried, channel);
+    asked(head, answer)
+}
+
+fn ask_waiting(
+    head: Head,
+    slots: &Cells,
+    lines: &Cells,
+    offers: &Records,
+    carried: &Records,
+    node: NodeNo,
+) -> HeadStep
+    ensures { λ r. ⌜ stepIn r (now (slots .entry)) (now (lines .entry)) (now (offers .entry)) (now (carried .entry))
+        ≡ stepOf (ringIn head (now (slots .entry)) (now (lines .entry)) (now (offers .entry)) (now (carried .entry)))
+        (callRing (Runs.waitingSet node)
+        (ringIn head (now (slots .entry)) (now (lines .entry)) (now (offers .entry)) (now (carried .entry)))) ⌝ }
+{
+    let answer = waiting_set(head, slots, lines, offers, carried, node);
+    asked(head, answer)
 }
 
 // The call, with the record of a send beside it.
@@ -54,7 +92,7 @@ pub fn perform(
         RingCall::Send(k) => send(head, slots, lines, offers, carried, k, record),
         RingCall::Enter(p) => enter(head, slots, lines, offers, carried, p),
         RingCall::Move(p) => move_on(head, slots, lines, offers, carried, p),
-        RingCall::HopsLeft(k) => asked(head, hops_left(head, slots, lines, offers, carried, k)),
-        RingCall::WaitingSet(p) => asked(head, waiting_set(head, slots, lines, offers, carried, p)),
+        RingCall::HopsLeft(k) => ask_hops(head, slots, lines, offers, carried, k),
+        RingCall::WaitingSet(p) => ask_waiting(head, slots, lines, offers, carried, p),
     }
 }
