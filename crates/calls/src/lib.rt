@@ -34,7 +34,7 @@ fn asked(head: Head, answer: Answer) -> HeadStep
     HeadStep { head, reply }
 }
 
-// The two questions as calls.
+// The two questions as calls. They are functions of their own, so that `perform` hands the head on and keeps no copy of it.
 fn ask_hops(
     head: Head,
     slots: &Cells,
