@@ -12,6 +12,7 @@
        vessel_ring_send(&ring, 0, record);
        vessel_ring_enter(&ring, 0);                      the traffic: at every node, again and again
        struct vessel_delivery d = vessel_ring_move(&ring, 0);
+       vessel_ring_withdraw(&ring, 0);                   a task that gives up, while its request still waits to enter
 
    Every call answers 0, VESSEL_DONE, or the number of the first refusal that applies, by itself or as `refusal` of a struct. A refusal
    leaves the ring and every buffer as they were, to the byte. Do not write to the ring yourself; a ring whose bytes are not those of a
@@ -71,7 +72,9 @@ enum vessel_refusal {
     VESSEL_COMMAND_CUT = 23,             /* fewer bytes are left than the command is wide */
     VESSEL_PLACE_BEYOND_END = 24,
     VESSEL_UNSOUND_RING = 25,            /* these bytes are not a ring */
-    VESSEL_NO_ROOM_TO_WRITE = 26         /* fewer bytes from the place on than the command is wide */
+    VESSEL_NO_ROOM_TO_WRITE = 26,        /* fewer bytes from the place on than the command is wide */
+    VESSEL_NOT_ASKING = 27,              /* no request to withdraw: the channel rests, or its request has arrived */
+    VESSEL_REQUEST_IN_BUFFER = 28        /* the request has left its line: too late to withdraw it */
 };
 
 /* What is under way on a channel. */
@@ -132,8 +135,9 @@ struct vessel_waiting {
 };
 
 /* A command of the tape. `code` is its command byte: 0x10 add node (first: slots), 0x11 add channel (first: sender, second: receiver),
-   0x12 start, 0x20 receive (first: channel), 0x21 send (first: channel; record), 0x22 enter (first: node), 0x23 move (first: node). What
-   a command does not have is zero when it is read, and is not looked at when it is written. No command has the code 0. */
+   0x12 start, 0x20 receive (first: channel), 0x21 send (first: channel; record), 0x22 enter (first: node), 0x23 move (first: node),
+   0x24 withdraw (first: channel). What a command does not have is zero when it is read, and is not looked at when it is written. No
+   command has the code 0. */
 struct vessel_command {
     uint8_t code;
     uint8_t first;
@@ -188,6 +192,13 @@ uint8_t vessel_ring_enter(struct vessel_ring *ring, uint8_t node);
 /* Moves the first message of the node's buffer to the next node, which takes it where it is meant for it: then a request makes its channel
    ready or sends the record offered back, and a response is delivered, which is the answer. Refusals: 25, 8, 16, 19, 20, 21. */
 struct vessel_delivery vessel_ring_move(struct vessel_ring *ring, uint8_t node);
+
+/* ---- a task that gives up */
+
+/* Takes a channel's request out of the receiver node's line, where it still stands there: the channel rests, and the task may ask again.
+   The others in the line keep their order, a record offered stays offered, and a line left empty loses its turn mark. Refusals: 25, 8, 9,
+   27, 28. */
+uint8_t vessel_ring_withdraw(struct vessel_ring *ring, uint8_t channel);
 
 /* ---- the questions: they read the ring */
 

@@ -1,7 +1,7 @@
 #!/usr/bin/env python3
 """Turns a command tape of the vessel ring into text, and text into a tape.
 
-The text has one command a line, with the names of document 01:
+The text has one command a line, with the names of documents 01 and 02:
 
   add node 2
   add channel 1 0                    (sender, receiver)
@@ -11,6 +11,7 @@ The text has one command a line, with the names of document 01:
   send 0 batch 7 vessel 3 temperature 612 length 33 cells 4131...
   enter 0
   move 0
+  withdraw 0
   bytes 7f 00
 
 Numbers are decimal; the temperature is in tenths of a degree. In a quoted
@@ -140,6 +141,7 @@ COMMANDS = [
             Number("temperature", "h", "temperature"), Name()),
     Command(0x22, "enter", NODE),
     Command(0x23, "move", NODE),
+    Command(0x24, "withdraw", CHANNEL),
 ]
 BY_BYTE = {command.byte: command for command in COMMANDS}
 

@@ -47,10 +47,13 @@ LISTING_OUT = """\
 12 23 19
 end 10 2
 """
-# The table of document 01, on its own: command byte and width.
-WIDTHS = {0x10: 2, 0x11: 3, 0x12: 1, 0x20: 2, 0x21: 42, 0x22: 2, 0x23: 2}
+# The table of document 01 and 02's command 24, on their own: command byte and width.
+WIDTHS = {0x10: 2, 0x11: 3, 0x12: 1, 0x20: 2, 0x21: 42, 0x22: 2, 0x23: 2, 0x24: 2}
 SEND = "send 0 batch 7 vessel 3 temperature 612 "
-COMMANDS = "add node, add channel, start, receive, send, enter, move or bytes"
+COMMANDS = "add node, add channel, start, receive, send, enter, move, withdraw or bytes"
+TAPES = ("listing", "turn", "edges", "withdraw")
+# Of tapes/withdraw, for each of its withdrawals: the refusal, or 0.
+WITHDRAW_ANSWERS = ["8", "9", "27", "28", "0", "0", "27", "27"]
 QUOTED = "a quoted name of at most 32 characters 20 to 7e"
 
 
@@ -107,7 +110,7 @@ class RoundTrips(unittest.TestCase):
     def test_plain_commands(self):
         for value in (0, 1, 15, 16, 63, 64, 65, 127, 128, 255):
             for byte, name in ((0x10, "add node"), (0x20, "receive"),
-                               (0x22, "enter"), (0x23, "move")):
+                               (0x22, "enter"), (0x23, "move"), (0x24, "withdraw")):
                 self.check_pair(bytes([byte, value]), f"{name} {value}\n")
             self.check_pair(bytes([0x11, value, 9]), f"add channel {value} 9\n")
             self.check_pair(bytes([0x11, 9, value]), f"add channel 9 {value}\n")
@@ -245,6 +248,9 @@ class Errors(unittest.TestCase):
                 (SEND + f"length 2 cells {cells} 0", "the end of the line", "'0'"),
                 ("enter", "node from 0 to 255", None),
                 ("move 0 0", "the end of the line", "'0'"),
+                ("withdraw", "channel from 0 to 255", None),
+                ("withdraw 256", "channel from 0 to 255", "'256'"),
+                ("withdraw 0 0", "the end of the line", "'0'"),
                 ("bytes", "two hexadecimal digits", None),
                 ("bytes 7", "two hexadecimal digits", "'7'"),
                 ("bytes 7f 0g", "two hexadecimal digits", "'0g'"),
@@ -314,13 +320,26 @@ class Tapes(unittest.TestCase):
         self.assertEqual(self.load("listing", "tape"), LISTING_TAPE)
         self.assertEqual(self.load("listing", "out").decode(), LISTING_OUT)
 
+    def test_every_tape_is_named(self):
+        for end in ("txt", "tape", "out"):
+            files = (HERE / "tapes").glob(f"*.{end}")
+            self.assertEqual(sorted(file.stem for file in files), sorted(TAPES))
+
+    def test_withdraw(self):
+        lines = self.load("withdraw", "out").decode("ascii").splitlines()
+        fields = [line.split() for line in lines]
+        self.assertEqual([f[2] for f in fields if f[1] == "24"], WITHDRAW_ANSWERS)
+        # The withdrawal that empties node 1's line frees the move before it.
+        freed = [f[1:] for f in fields[17:20]]
+        self.assertEqual(freed, [["23", "21"], ["24", "0"], ["23", "0"]])
+
     def test_texts_give_the_tapes(self):
-        for name in ("listing", "turn", "edges"):
+        for name in TAPES:
             text = self.load(name, "txt").decode("ascii")
             self.assertEqual(text_to_tape(text), self.load(name, "tape"), name)
 
     def test_outputs_fit_the_tapes(self):
-        for name in ("listing", "turn", "edges"):
+        for name in TAPES:
             commands = self.commands(self.load(name, "tape"))
             *lines, last = self.load(name, "out").decode("ascii").splitlines()
             heads = [re.match(r"(\d+) (..) (\d+)", line).groups() for line in lines]

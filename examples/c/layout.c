@@ -64,6 +64,9 @@ static void ring_fields(void)
     }
     HOLDS(vessel_ring_receive(&ring, 63) == VESSEL_DONE && ring.phases[63] == VESSEL_ASKING);
     HOLDS(ring.receivers[63] == 11 && ring.waiting[11] == 1 && ring.lines[11][0] == 64);
+    HOLDS(vessel_ring_withdraw(&ring, 63) == VESSEL_DONE && ring.phases[63] == VESSEL_RESTING && ring.offered[63] == 1);
+    HOLDS(ring.waiting[11] == 0 && ring.lines[11][0] == 0 && vessel_ring_withdraw(&ring, 63) == VESSEL_NOT_ASKING);
+    HOLDS(vessel_ring_receive(&ring, 63) == VESSEL_DONE && ring.lines[11][0] == 64);
     w = vessel_ring_waiting_set(&ring, 11);
     HOLDS(w.refusal == 0 && w.set == (uint64_t)1 << 63 && w.tasks == 1);
     HOLDS(vessel_ring_waiting_set(&ring, 16).refusal == VESSEL_NO_SUCH_NODE);
@@ -71,6 +74,7 @@ static void ring_fields(void)
     HOLDS(h.refusal == 0 && ring.senders[63] == 4 && h.hops == 16);
     HOLDS(vessel_ring_hops_left(&ring, 64).refusal == VESSEL_NO_SUCH_CHANNEL);
     HOLDS(vessel_ring_enter(&ring, 11) == VESSEL_DONE && ring.used[11] == 1 && ring.slots[11][0] == 64 && ring.waiting[11] == 0);
+    HOLDS(vessel_ring_withdraw(&ring, 63) == VESSEL_REQUEST_IN_BUFFER);
     HOLDS(vessel_ring_receive(&ring, 12) == VESSEL_DONE && ring.receivers[12] == 12 && ring.marks[12] == 0);
     d = vessel_ring_move(&ring, 11);
     HOLDS(d.refusal == 0 && d.delivered == 0 && ring.marks[12] == 1 && ring.slots[12][0] == 64);

@@ -66,6 +66,7 @@ static void damaged(void)
     printf(" %u", vessel_ring_send(&copy, 0, none));
     printf(" %u", vessel_ring_enter(&copy, 0));
     printf(" %u", vessel_ring_move(&copy, 0).refusal);
+    printf(" %u", vessel_ring_withdraw(&copy, 0));
     printf(" %u", vessel_ring_hops_left(&copy, 0).refusal);
     printf(" %u", vessel_ring_waiting_set(&copy, 0).refusal);
     printf(", the ring %s\n", memcmp(&copy, &before, sizeof copy) == 0 ? "as it was" : "CHANGED");

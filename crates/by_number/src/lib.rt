@@ -1,4 +1,4 @@
-// The ring calls and the tape's commands with plain numbers in and out, by value: what C sees. Here are the structs for C and the nine ring
+// The ring calls and the tape's commands with plain numbers in and out, by value: what C sees. Here are the structs for C and the ring
 // calls, each made by value (`by_value`) and its answer told in numbers; `commands` has the tape's commands and `records` the batch
 // record. `vessel_ring` exports them and lends a ring to the calls.
 pub mod commands;
@@ -210,6 +210,16 @@ pub fn move_on(ring: Ring, node: u8) -> Moved
 {
     let made = by_value::perform(ring, RingCall::Move(NodeNo(node)), BatchRecord::none());
     delivery_in(made)
+}
+
+pub fn withdraw(ring: Ring, channel: u8) -> Told
+    ensures { λ r. ⌜ r ≡ toldOf (stepRing (Runs.withdraw (channelNo channel)) ring) ⌝ }
+{
+    make(
+        ring,
+        RingCall::Withdraw(ChannelNo(channel)),
+        BatchRecord::none(),
+    )
 }
 
 pub fn hops_left(ring: Ring, channel: u8) -> HopsLeft

@@ -99,6 +99,13 @@ pub fn move_on(ring: Ring, node: NodeNo) -> Step
     perform(ring, RingCall::Move(node), BatchRecord::none())
 }
 
+// Gives up a request that still stands in its line.
+pub fn withdraw(ring: Ring, channel: ChannelNo) -> Step
+    ensures { λ r. ⌜ r ≡ stepOf ring (callRing (Runs.withdraw channel) ring) ⌝ }
+{
+    perform(ring, RingCall::Withdraw(channel), BatchRecord::none())
+}
+
 // How many hops a channel's message, and the response to it, still have to go.
 pub fn hops_left(ring: Ring, channel: ChannelNo) -> Answer
     ensures { λ r. ⌜ r ≡ replyOf (callRing (Runs.hopsLeft channel) ring) .answer ⌝ }

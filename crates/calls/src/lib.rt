@@ -17,6 +17,7 @@ use questions::hops_left;
 use questions::waiting_set;
 use tasks::receive;
 use tasks::send;
+use tasks::withdraw;
 use traffic::enter;
 use traffic::move_on;
 ghost use mathlib.Core.Path.{_≡_};
@@ -92,6 +93,7 @@ pub fn perform(
         RingCall::Send(k) => send(head, slots, lines, offers, carried, k, record),
         RingCall::Enter(p) => enter(head, slots, lines, offers, carried, p),
         RingCall::Move(p) => move_on(head, slots, lines, offers, carried, p),
+        RingCall::Withdraw(k) => withdraw(head, slots, lines, offers, carried, k),
         RingCall::HopsLeft(k) => ask_hops(head, slots, lines, offers, carried, k),
         RingCall::WaitingSet(p) => ask_waiting(head, slots, lines, offers, carried, p),
     }

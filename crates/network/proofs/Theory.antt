@@ -6,6 +6,7 @@ pub mod Weight
 pub mod Kept
 pub mod Away
 pub mod Place
+pub mod Count
 pub mod Measure
 pub mod Stall
 pub mod Order

@@ -14,13 +14,13 @@ use Rattle.batch.specs.Blank.{noRecord}
 use Rattle.numbers.specs.declared.ChannelNo.{ChannelNo}
 use Rattle.network.specs.declared.Ring.{Ring}
 use Rattle.network.specs.declared.RingCall.{RingCall}
-use Rattle.network.specs.declared.RingCall.the-variants.{AddNode, AddChannel, Start, Receive, Send, Enter, Move, HopsLeft, WaitingSet}
+use Rattle.network.specs.declared.RingCall.the-variants.{AddNode, AddChannel, Start, Receive, Send, Enter, Move, Withdraw, HopsLeft, WaitingSet}
 use Rattle.network.specs.declared.Answer.{Answer}
 use Rattle.network.specs.declared.Answer.the-variants.{Done, Delivered, Hops, Waiting, Refused}
 use Rattle.network.specs.declared.Reply.{Reply}
 use Rattle.network.specs.declared.Step.{Step}
 use Rattle.network.specs.Calls.{Event, done, delivered, hopsAre, waitingAre, Delivery, deliveryIn, Outcome, refused, accepted}
-use Rattle.network.specs.Runs.{Call, addNode, addChannel, start, receive, send, enter, move, hopsLeft, waitingSet, after}
+use Rattle.network.specs.Runs.{Call, addNode, addChannel, start, receive, send, enter, move, withdraw, hopsLeft, waitingSet, after}
 
 -- the ring call that a case of the enum stands for, with the record beside it
 abbrev pub callOf : RingCall → BatchRecord → Call
@@ -31,6 +31,7 @@ callOf (Receive channel) x = receive channel
 callOf (Send channel) x = send channel x
 callOf (Enter node) x = enter node
 callOf (Move node) x = move node
+callOf (Withdraw channel) x = withdraw channel
 callOf (HopsLeft channel) x = hopsLeft channel
 callOf (WaitingSet node) x = waitingSet node
 

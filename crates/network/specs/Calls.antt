@@ -1,6 +1,6 @@
--- The nine ring calls of document 01, "Steps" and "Refusal by operation": each is a function of its operands and the ring, and
--- answers the first refusal that applies, or is accepted with an answer and the next ring. That an unsound ring is refused before
--- all others is said once, where a ring in memory is called (Layout). Assumes nothing.
+-- The nine ring calls of document 01, "Steps" and "Refusal by operation", and withdraw of document 02: each is a function of its operands
+-- and the ring, and answers the first refusal that applies, or is accepted with an answer and the next ring. That an unsound ring is
+-- refused before all others is said once, where a ring in memory is called (Layout). Assumes nothing.
 use Prim.Native.Nat.{ℕ, zero, suc, _+_, _*_, _^_}
 use mathlib.Core.Bool.{Bool, true, false, cond, _&&_, _||_, not}
 use mathlib.Core.List.{List, [], _∷_, _++_}
@@ -8,7 +8,7 @@ use mathlib.Core.Option.{Option, none, some}
 use lib.Dec.{leb, ltb}
 use lib.ListN.{length}
 use Rattle.refusal.specs.declared.Refusal.{Refusal}
-use Rattle.refusal.specs.declared.Refusal.the-variants.{AlreadyStarted, NodesFull, BadSlots, ChannelsFull, NoSuchEnd, NothingToStart, TooFewSlots, NotStarted, NoSuchChannel, NotResting, AlreadyOffered, NoSuchNode, LineEmpty, NoFreeSlot, BufferEmpty, NextBufferFull, TurnMarkSet}
+use Rattle.refusal.specs.declared.Refusal.the-variants.{AlreadyStarted, NodesFull, BadSlots, ChannelsFull, NoSuchEnd, NothingToStart, TooFewSlots, NotStarted, NoSuchChannel, NotResting, AlreadyOffered, NoSuchNode, LineEmpty, NoFreeSlot, BufferEmpty, NextBufferFull, TurnMarkSet, NotAsking, RequestInBuffer}
 use Rattle.batch.specs.declared.BatchRecord.{BatchRecord}
 use Rattle.batch.specs.declared.Verdict.{Verdict}
 use Rattle.batch.specs.declared.Verdict.the-variants.{Good, Refused}
@@ -17,8 +17,8 @@ pub use Rattle.batch.specs.Good.{unless}
 use Rattle.numbers.specs.declared.NodeNo.{NodeNo}
 use Rattle.numbers.specs.declared.ChannelNo.{ChannelNo}
 use Rattle.network.specs.Counting.{one, sum, occupied}
-use Rattle.network.specs.Network.{Network, ChannelState, Phase, resting, asking, ready, answering, nodeCount, channelCount, slotCount, nodeNo, channelNo, sameNode, timesIn, node, channel, isNode, isChannel, nextNode, hopsOn, target, withNode, withChannel, withNewNode, withNewChannel, withStarted, withDeliveries}
-use Rattle.network.specs.Sound.{Limits, oneMore, absent, isResting, isReady}
+use Rattle.network.specs.Network.{Network, ChannelState, Phase, resting, asking, ready, answering, nodeCount, channelCount, slotCount, nodeNo, channelNo, sameNode, timesIn, without, node, channel, isNode, isChannel, nextNode, hopsOn, target, withNode, withChannel, withNewNode, withNewChannel, withStarted, withDeliveries}
+use Rattle.network.specs.Sound.{Limits, oneMore, absent, isResting, isAsking, isReady}
 
 -- what an accepted call answers: nothing more, a delivery with its channel and record, hops left, or a waiting set
 pub data Event : Type 0 where
@@ -54,6 +54,19 @@ request k σ = joinLine (channel σ k .receiver) k (withChannel k asking (channe
 -- the channel becomes answering, and the record x leaves the offer and joins the sender node's line as the response
 abbrev pub respond : ChannelNo → BatchRecord → Network → Network
 respond k x σ = joinLine (channel σ k .sender) k (withChannel k (answering x) none σ)
+
+-- channel k leaves the line of node p, and the turn mark is cleared if that leaves the line empty
+abbrev pub leaveLine : NodeNo → ChannelNo → Network → Network
+leaveLine p k σ =
+    withNode p (node σ p .buffer) (without k (node σ p .line)) (node σ p .mark && occupied (without k (node σ p .line))) σ
+
+-- the request leaves the receiver node's line and the channel rests; a record that is offered stays offered
+abbrev pub takeBack : ChannelNo → Network → Network
+takeBack k σ = withChannel k resting (channel σ k .offer) (leaveLine (channel σ k .receiver) k σ)
+
+-- channel k stands in the line of its receiver node
+abbrev pub inReceiverLine : Network → ChannelNo → Bool
+inReceiverLine σ k = ltb 0 (timesIn (node σ (channel σ k .receiver) .line) k)
 
 -- what a node q does with a message that reaches it: a request for which it is the sender node is taken, a response for which it is
 -- the receiver node is delivered, anything else passes into its buffer
@@ -145,7 +158,7 @@ unfoldable pub waitingOf : Network → NodeNo → ℕ
 waitingOf σ p =
     sum (channelCount σ) (λ k. 2 ^ k * one (waits p (channel σ (channelNo k))))
 
--- The nine calls. Each line is a refusal in the order of document 01: go on where the test passes, else refuse.
+-- The calls. Each line is a refusal in the order of document 01: go on where the test passes, else refuse.
 module _ (L : Limits) where
   unfoldable pub addNode : ℕ → Network → Outcome Network
   addNode slots σ =
@@ -195,6 +208,15 @@ move p σ =
     unless (σ .started) (refused NotStarted)
     (unless (isNode σ p) (refused NoSuchNode)
     (moveFirst p (node σ p .buffer) σ))
+
+-- Withdraw on an asking channel whose request still stands in its receiver's line: the request is taken back.
+unfoldable pub withdraw : ChannelNo → Network → Outcome Network
+withdraw k σ =
+    unless (σ .started) (refused NotStarted)
+    (unless (isChannel σ k) (refused NoSuchChannel)
+    (unless (isAsking (channel σ k .phase)) (refused NotAsking)
+    (unless (inReceiverLine σ k) (refused RequestInBuffer)
+    (accepted done (takeBack k σ)))))
 
 unfoldable pub hopsLeft : ChannelNo → Network → Outcome Network
 hopsLeft k σ =

@@ -1,7 +1,7 @@
 -- Sums, counts and tests over the numbers below a bound and over lists: the few words that the other definitions are written in.
 -- Assumes nothing.
 use Prim.Native.Nat.{ℕ, zero, suc, _+_}
-use mathlib.Core.Bool.{Bool, true, false, _&&_}
+use mathlib.Core.Bool.{Bool, true, false, cond, _&&_}
 use mathlib.Core.List.{List, [], _∷_, _++_}
 use lib.Dec.{eqb}
 
@@ -33,6 +33,16 @@ weigh f (x ∷ xs) = f x + weigh f xs
 -- how many times k stands in a list
 abbrev pub count : ℕ → List ℕ → ℕ
 count k xs = weigh (λ x. one (eqb x k)) xs
+
+-- the list without the first element that passes the test; the others keep their order
+abbrev pub withoutFirst : {A : Type 0} → (A → Bool) → List A → List A
+withoutFirst f [] = []
+withoutFirst f (x ∷ xs) = cond (f x) xs (x ∷ withoutFirst f xs)
+
+-- the list n times over
+abbrev pub times : {A : Type 0} → ℕ → List A → List A
+times zero xs = []
+times (suc n) xs = xs ++ times n xs
 
 -- the list has an element
 abbrev pub occupied : {A : Type 0} → List A → Bool

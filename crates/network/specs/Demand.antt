@@ -15,7 +15,7 @@ use Rattle.network.specs.Network.{Network}
 use Rattle.network.specs.Sound.{Limits}
 use Rattle.network.specs.Sound
 use Rattle.network.specs.Calls.{Outcome, refused, unless}
-use Rattle.network.specs.Runs.{Call, enter, move, hopsLeft, waitingSet, call, after, isAccepted, run, counted, offeredOn, deliveredOn, matched, bound}
+use Rattle.network.specs.Runs.{Call, enter, move, hopsLeft, waitingSet, call, after, isAccepted, run, deeds, withdrawn, counted, offeredOn, deliveredOn, matched, bound}
 use Rattle.network.specs.Answers.{says, answers}
 
 -- the calls of the definitions, with the test for 25 before all others
@@ -57,11 +57,12 @@ module _ {S : Type 0} (fresh : S) (sound : S → Bool) (seen : S → Network) (s
     pub at : NodeNo
     pub next-accepted : (isAccepted (step (enter at) (run step calls s)) || isAccepted (step (move at) (run step calls s))) ≡ true
 
-  -- From a sound started ring where a request and the record x are matched on channel m, every list of calls is one or the other.
+  -- From a sound started ring where a request and the record x are matched on channel m, every list of calls that does not withdraw that
+  -- request is one or the other.
   abbrev pub Served : Type 0
   Served =
       (s : S) (m : ChannelNo) (x : BatchRecord) (calls : List Call) →
-      sound s ≡ true → seen s .started ≡ true → matched (seen s) m ≡ some x →
+      sound s ≡ true → seen s .started ≡ true → matched (seen s) m ≡ some x → withdrawn m (deeds step calls s) ≡ false →
       InTime s m x calls ⊎ UnderWay s m calls
 
   -- From a fresh ring, the records delivered on each channel are the first of those offered, in order, each once.

@@ -1,7 +1,7 @@
 -- The five dummies of document 01, "Conditions of acceptance", as ways to answer ring calls, each made of the true calls in a line or two;
 -- and the claims that demand 2 rejects all five, that the bound and the order in demand 3 alone reject the first, the fourth and the
 -- fifth, and that each part of what is promised can fail. Assumes nothing.
-use Prim.Native.Nat.{ℕ, zero, suc, _+_}
+use Prim.Native.Nat.{suc, _+_}
 use mathlib.Core.Path.{_≡_}
 use mathlib.Core.Logic.{_≢_}
 use mathlib.Core.Bool.{true, cond}
@@ -13,10 +13,11 @@ use Rattle.refusal.specs.declared.Refusal.{Refusal}
 use Rattle.refusal.specs.declared.Refusal.the-variants.{NoFreeSlot, NextBufferFull, UnsoundRing}
 use Rattle.network.specs.declared.Ring.{Ring}
 use Rattle.network.specs.declared.Step.{Step}
+use Rattle.network.specs.Counting.{times}
 use Rattle.network.specs.Network.{Network, ringOf, fresh, channelNo, nodeCount, nextNode}
 use Rattle.network.specs.Sound.{sound}
 use Rattle.network.specs.Calls.{Event, done, delivered, hopsAre, waitingAre, Outcome, refused, accepted, unless, hasSlot}
-use Rattle.network.specs.Runs.{Call, addNode, addChannel, start, receive, send, enter, move, hopsLeft, waitingSet, call, run, counted, deliveredOn}
+use Rattle.network.specs.Runs.{Call, addNode, addChannel, start, receive, send, enter, move, withdraw, hopsLeft, waitingSet, call, run, counted, deliveredOn}
 use Rattle.network.specs.Layout.{ringLimits, view, freshRing, soundRing, heldOutcome}
 use Rattle.network.specs.Answers.{saidIn, says, replyOf, stepOf}
 use Rattle.network.specs.Demand.{RefusesUnsound, KeepsSound, Leaves, Served, InOrder, Each, Unsound}
@@ -53,6 +54,7 @@ byTraffic (receive k) entry moving other = other
 byTraffic (send k x) entry moving other = other
 byTraffic (enter p) entry moving other = entry p
 byTraffic (move p) entry moving other = moving p
+byTraffic (withdraw k) entry moving other = other
 byTraffic (hopsLeft k) entry moving other = other
 byTraffic (waitingSet p) entry moving other = other
 
@@ -153,10 +155,6 @@ InOrderBy way = InOrder fresh (sound ringLimits) (λ σ. σ) way
 
 -- The runs that show it: the end of a lap and eleven laps more, 89 calls; one call 84 times; for a ring that turns every call down the
 -- empty run, and for a ring that always delivers one call from a fresh ring.
-abbrev pub times : ℕ → List Call → List Call
-times zero calls = []
-times (suc n) calls = calls ++ times n calls
-
 abbrev pub elevenLaps : List Call
 elevenLaps = move n1 ∷ times 11 (lap ++ (move n1 ∷ []))
 

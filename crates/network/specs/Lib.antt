@@ -11,4 +11,5 @@ pub mod Layout
 pub mod Answers
 pub mod Promise
 pub mod Edges
+pub mod Withdrawals
 pub mod Dummies

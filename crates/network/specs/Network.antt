@@ -12,7 +12,7 @@ use Rattle.numbers.specs.declared.NodeNo.{NodeNo}
 use Rattle.numbers.specs.declared.ChannelNo.{ChannelNo}
 pub use Rattle.numbers.specs.Numbers.{nodeNo, channelNo, sameNode, sameChannel}
 use Rattle.hops.specs.Hops.{hops, next}
-use Rattle.network.specs.Counting.{sum, count}
+use Rattle.network.specs.Counting.{sum, count, withoutFirst}
 
 -- the numbers of a buffer or a line, and how many times channel k stands in it
 abbrev pub numbersOf : List ChannelNo → List ℕ
@@ -20,6 +20,10 @@ numbersOf ks = map (λ (k : ChannelNo). k .0) ks
 
 abbrev pub timesIn : List ChannelNo → ChannelNo → ℕ
 timesIn ks k = count (k .0) (numbersOf ks)
+
+-- a line without channel k
+abbrev pub without : ChannelNo → List ChannelNo → List ChannelNo
+without k ks = withoutFirst (λ j. sameChannel j k) ks
 
 -- Where a channel stands. Resting: nothing under way. Asking (document 01's word): its request is on the ring. Ready: the request
 -- arrived and no record was offered. Answering: its response is on the ring, with the record carried.

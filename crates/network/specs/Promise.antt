@@ -1,5 +1,5 @@
 -- What is promised of code that answers each ring call with a step, the ring and a reply. Everything is said of what the code returns, by
--- document 01's number and values: demand 1 and demand 3, if the code meets the contracts of the nine calls, which are demand 2. Assumes
+-- document 01's number and values: demand 1 and demand 3, if the code meets the contracts of the ring calls, which are demand 2. Assumes
 -- nothing.
 use mathlib.Core.Path.{_≡_}
 use mathlib.Core.Logic.{_≢_}
@@ -13,7 +13,7 @@ use Rattle.network.specs.Answers.{numberIn, stepOf, outcomeOf}
 use Rattle.network.specs.Demand.{RefusesUnsound, Safe, Demand3}
 
 module _ (code : Call → Ring → Step) where
-  -- Demand 2: for every call and every ring, the answer and the next ring of the definitions. This is the contract of each of the seven
+  -- Demand 2: for every call and every ring, the answer and the next ring of the definitions. This is the contract of each of the eight
   -- calls that can change a ring; of a question it is the answer, beside the ring that was asked and a blank record. (The operands in code
   -- are bytes, which are among the numbers here.)
   abbrev pub MeetsContracts : Type 0

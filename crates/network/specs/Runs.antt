@@ -1,7 +1,8 @@
--- Document 01, "Runs of calls": lists of calls on anything that answers ring calls, what was offered and delivered on a channel, and
--- which calls are counted. S is what is called: the ring apart from its layout, or the ring in memory. Assumes nothing.
-use Prim.Native.Nat.{ℕ, _+_, _*_}
-use mathlib.Core.Bool.{Bool, true, false, cond}
+-- Document 01, "Runs of calls", with the withdrawals of document 02: lists of calls on anything that answers ring calls, what was offered
+-- and delivered on a channel, and what is counted. S is what is called: the ring apart from its layout, or the ring in memory. Assumes
+-- nothing.
+use Prim.Native.Nat.{ℕ, suc, _+_, _*_}
+use mathlib.Core.Bool.{Bool, true, false, cond, not}
 use mathlib.Core.List.{List, [], _∷_, _++_}
 use mathlib.Core.Option.{Option, none, some}
 use Rattle.batch.specs.declared.BatchRecord.{BatchRecord}
@@ -22,6 +23,7 @@ pub data Call : Type 0 where
   send : ChannelNo → BatchRecord → Call
   enter : NodeNo → Call
   move : NodeNo → Call
+  withdraw : ChannelNo → Call
   hopsLeft : ChannelNo → Call
   waitingSet : NodeNo → Call
 
@@ -33,20 +35,42 @@ call L (receive k) σ = Calls.receive k σ
 call L (send k x) σ = Calls.send k x σ
 call L (enter p) σ = Calls.enter p σ
 call L (move p) σ = Calls.move p σ
+call L (withdraw k) σ = Calls.withdraw k σ
 call L (hopsLeft k) σ = Calls.hopsLeft k σ
 call L (waitingSet p) σ = Calls.waitingSet p σ
 
--- only accepted receives, sends, entries and moves are counted
-abbrev pub counts : Call → Bool
-counts (addNode slots) = false
-counts (addChannel s r) = false
-counts start = false
-counts (receive k) = true
-counts (send k x) = true
-counts (enter p) = true
-counts (move p) = true
-counts (hopsLeft k) = false
-counts (waitingSet p) = false
+-- What an accepted call is to the count. A send, an entry and a move are steps; what plans the ring or asks a question is silent.
+pub data Deed : Type 0 where
+  received withdrew : ChannelNo → Deed
+  stepped silent : Deed
+
+abbrev pub deedOf : Call → Deed
+deedOf (addNode slots) = silent
+deedOf (addChannel s r) = silent
+deedOf start = silent
+deedOf (receive k) = received k
+deedOf (send k x) = stepped
+deedOf (enter p) = stepped
+deedOf (move p) = stepped
+deedOf (withdraw k) = withdrew k
+deedOf (hopsLeft k) = silent
+deedOf (waitingSet p) = silent
+
+-- The request that stands on channel k is withdrawn in what follows: of the receives and withdrawals on k the first is a withdrawal.
+abbrev pub withdrawn : ChannelNo → List Deed → Bool
+withdrawn k [] = false
+withdrawn k (received j ∷ ds) = cond (sameChannel j k) false (withdrawn k ds)
+withdrawn k (withdrew j ∷ ds) = cond (sameChannel j k) true (withdrawn k ds)
+withdrawn k (stepped ∷ ds) = withdrawn k ds
+withdrawn k (silent ∷ ds) = withdrawn k ds
+
+-- Sends, entries and moves are counted, and receives; a withdrawal is left out, and so is the receive that it undoes.
+abbrev pub countOf : List Deed → ℕ
+countOf [] = 0
+countOf (received k ∷ ds) = one (not (withdrawn k ds)) + countOf ds
+countOf (withdrew k ∷ ds) = countOf ds
+countOf (stepped ∷ ds) = suc (countOf ds)
+countOf (silent ∷ ds) = countOf ds
 
 -- record x of channel j, as channel k sees it
 abbrev pub onChannel : ChannelNo → ChannelNo → BatchRecord → List BatchRecord
@@ -61,6 +85,7 @@ sentOn k (receive j) = []
 sentOn k (send j x) = onChannel k j x
 sentOn k (enter p) = []
 sentOn k (move p) = []
+sentOn k (withdraw j) = []
 sentOn k (hopsLeft j) = []
 sentOn k (waitingSet p) = []
 
@@ -82,9 +107,9 @@ module _ {S : Type 0} where
   isAccepted (refused r) = false
   isAccepted (accepted e t) = true
 
-  abbrev pub countedBy : Call → Outcome S → ℕ
-  countedBy a (refused r) = 0
-  countedBy a (accepted e t) = one (counts a)
+  abbrev pub deedBy : Call → Outcome S → Deed
+  deedBy a (refused r) = silent
+  deedBy a (accepted e t) = deedOf a
 
   abbrev pub offeredBy : ChannelNo → Call → Outcome S → List BatchRecord
   offeredBy k a (refused r) = []
@@ -100,10 +125,14 @@ module _ {S : Type 0} (step : Call → S → Outcome S) where
   run [] s = s
   run (a ∷ calls) s = run calls (after s (step a s))
 
-  -- how many accepted receives, sends, entries and moves a run has
+  -- what a run does, call by call
+  abbrev pub deeds : List Call → S → List Deed
+  deeds [] s = []
+  deeds (a ∷ calls) s = deedBy a (step a s) ∷ deeds calls (after s (step a s))
+
+  -- how many accepted receives, sends, entries and moves a run has, but for the receives that it undoes
   abbrev pub counted : List Call → S → ℕ
-  counted [] s = 0
-  counted (a ∷ calls) s = countedBy a (step a s) + counted calls (after s (step a s))
+  counted calls s = countOf (deeds calls s)
 
   -- offered on channel k: the records of the run's accepted sends on it, in the order of the calls
   abbrev pub offeredOn : ChannelNo → List Call → S → List BatchRecord

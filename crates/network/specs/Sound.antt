@@ -35,6 +35,12 @@ isResting asking = false
 isResting ready = false
 isResting (answering x) = false
 
+abbrev pub isAsking : Phase → Bool
+isAsking resting = false
+isAsking asking = true
+isAsking ready = false
+isAsking (answering x) = false
+
 abbrev pub isReady : Phase → Bool
 isReady resting = false
 isReady asking = false

@@ -136,6 +136,7 @@ pub enum RingCall {
     Send(ChannelNo),
     Enter(NodeNo),
     Move(NodeNo),
+    Withdraw(ChannelNo),
     HopsLeft(ChannelNo),
     WaitingSet(NodeNo),
 }

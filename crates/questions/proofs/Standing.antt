@@ -3,7 +3,7 @@
 use Prim.Native.Nat.{ℕ, zero, suc, _+_, _*_, _≤_, _<_}
 use mathlib.Core.Path.{_≡_, refl, sym, ap, _∙_}
 use mathlib.Core.Logic.{_≢_}
-use mathlib.Core.Bool.{Bool, true, false, _||_}
+use mathlib.Core.Bool.{Bool, true, false, _||_, or-true}
 use mathlib.Core.List.{List, [], _∷_}
 use mathlib.Core.Option.{Option, none, some}
 use native.Mathlib.Nat.{add-zero}
@@ -32,7 +32,7 @@ use Rattle.network.proofs.Ground.Counting.{weigh-snoc}
 use Rattle.network.proofs.Memory.Rows.{getD-padded, getD-row}
 use Rattle.network.proofs.Memory.Held.{SoundRing, sound-ring, HeldNode}
 use Rattle.updates.specs.Flat.{usedAt}
-use Rattle.updates.specs.Known.{AtChannel}
+use Rattle.updates.specs.Known.{AtChannel, FirstAt}
 use Rattle.updates.proofs.Openings.{sound-called}
 use Rattle.updates.proofs.Reading.{channel-known, channel-there, channel-numbers, channel-running}
 use Rattle.questions.specs.Asked.{Within, standsIn, placeIn, wayIn, hopsIn}
@@ -49,21 +49,27 @@ sound-within ring ok =
           omega (arith, s .holds .nodes p (omega (arith, s .fits .nodes-fit)) .used, s .fits .buffer-fits p there);
     }
 
--- the search in a row of cells, turn by turn
+-- a cell that was found, or was not, among the first n
 
 module _ (cells : List ℕ) (base cell : ℕ) where
-  pub stands-nowhere : standsIn cells base cell 0 ≡ false
+  some-stands : (n i : ℕ) → i < n → getD cells (base + i) 0 ≡ cell → standsIn cells base cell n ≡ true
   unfolding standsIn
-  stands-nowhere = refl
+  some-stands zero i l here = absurd (omega arith)
+  some-stands (suc n) i l here =
+      by-same i n (λ e. rw (← e, eq-eqb _ _ here))
+      (λ d. rw (some-stands n i (omega arith) here) (or-true (eqb (getD cells (base + n) 0) cell)))
 
-  pub stands-here : (j i : ℕ) → j ≡ suc i → getD cells (base + i) 0 ≡ cell → standsIn cells base cell j ≡ true
+  none-stands : (n : ℕ) → ((j : ℕ) → j < n → getD cells (base + j) 0 ≢ cell) → standsIn cells base cell n ≡ false
   unfolding standsIn
-  stands-here j i e h = rw (e, eq-eqb _ _ h)
+  none-stands zero other = refl
+  none-stands (suc n) other = rw (ne-eqb _ _ (other n (omega arith)), none-stands n (λ j l. other j (omega arith)))
 
-  pub stands-before : (j i : ℕ) → j ≡ suc i → getD cells (base + i) 0 ≢ cell →
-      standsIn cells base cell j ≡ standsIn cells base cell i
-  unfolding standsIn
-  stands-before j i e d = rw (e, ne-eqb _ _ d)
+  module _ {used i : ℕ} (found : FirstAt cells base used cell i) where
+    pub stands-there : i < used → standsIn cells base cell used ≡ true
+    stands-there inside = some-stands used i inside (found .there inside)
+
+    pub stands-nowhere : used ≤ i → standsIn cells base cell used ≡ false
+    stands-nowhere past = none-stands used (λ j l. found .not-before j (omega arith))
 
 -- the search over the nodes, turn by turn
 

@@ -15,12 +15,12 @@ use updates::opening::Opening;
 use updates::opening::Subject;
 use updates::opening::open;
 ghost use mathlib.Core.Path.{_≡_};
-ghost use Prim.Native.Nat.{_+_, _≤_, _<_};
+ghost use Prim.Native.Nat.{_≤_, _<_};
 ghost use lib.Count.{ones};
 ghost use Rattle.network.specs.Answers.{replyOf};
-ghost use Rattle.network.specs.Layout.{channelRoom, cellRoom, callRing, ringIn};
+ghost use Rattle.network.specs.Layout.{channelRoom, callRing, ringIn};
 ghost use Rattle.network.specs.Runs.{hopsLeft, waitingSet};
-ghost use Rattle.questions.specs.Asked.{Within, standsIn, placeIn, hopsIn, waitsBy, waitingIn};
+ghost use Rattle.questions.specs.Asked.{Within, placeIn, hopsIn, waitsBy, waitingIn};
 ghost use Rattle.questions.specs.Tasks.{tasksIn};
 
 // What is answered to how many tasks of a node wait: the number, or the refusal.
@@ -89,26 +89,12 @@ fn place_of(head: Head, slots: &Cells, cell: u8, entry: u8) -> u8
         p -= 1;
         let at = p as usize;
         let used = head.used[at] as usize;
-        if stands_in(slots, network::ROW * at, used, cell) {
+        let index = updates::index_in(slots, network::ROW * at, used, cell);
+        if index < used {
             return p;
         }
     }
     entry
-}
-
-// Whether the cell stands among the `used` cells from `base` on.
-fn stands_in(cells: &Cells, base: usize, used: usize, cell: u8) -> bool
-    requires { ⌜ base + used ≤ cellRoom ⌝ }
-    ensures { λ r. ⌜ r ≡ standsIn (now (cells .entry)) base cell used ⌝ }
-{
-    let mut j = used;
-    while 0 < j {
-        j -= 1;
-        if cells[base + j] == cell {
-            return true;
-        }
-    }
-    false
 }
 
 // The channels whose receiver is the node and that are not resting, as a set of bits, channel 0 being the lowest.

@@ -56,10 +56,14 @@ pub enum Refusal {
     UnsoundRing,
     // There are fewer bytes from the place on than the command is wide.
     NoRoomToWrite,
+    // The channel is not asking.
+    NotAsking,
+    // The channel's request is in a buffer.
+    RequestInBuffer,
 }
 
 impl Refusal {
-    // The number of the refusal, from 1 to 26.
+    // The number of the refusal, from 1 to 28.
     pub fn number(self) -> u8
         ensures { λ r. ⌜ r ≡ numberOf self ⌝ }
     {
@@ -90,6 +94,8 @@ impl Refusal {
             Refusal::PlaceBeyondEnd => 24,
             Refusal::UnsoundRing => 25,
             Refusal::NoRoomToWrite => 26,
+            Refusal::NotAsking => 27,
+            Refusal::RequestInBuffer => 28,
         }
     }
 }

@@ -6,7 +6,7 @@ use Rattle.network.specs.declared.Step.{Step}
 use Rattle.network.specs.Answers.{callOf}
 use Rattle.network.specs.Layout.{stepRing}
 use Rattle.tape.specs.declared.Action.{Action}
-use Rattle.tape.specs.declared.Action.the-variants.{AddNode, AddChannel, Start, Receive, Send, Enter, Move}
+use Rattle.tape.specs.declared.Action.the-variants.{AddNode, AddChannel, Start, Receive, Send, Enter, Move, Withdraw}
 use Rattle.tape.specs.declared.Command.{Command}
 
 -- the case of the ring calls that an action is, with its operands
@@ -18,6 +18,7 @@ ringCall (Receive channel) = ring.Receive channel
 ringCall (Send channel) = ring.Send channel
 ringCall (Enter node) = ring.Enter node
 ringCall (Move node) = ring.Move node
+ringCall (Withdraw channel) = ring.Withdraw channel
 
 -- the ring after a command, and the reply
 unfoldable pub commandStep : Command → Ring → Step

@@ -117,6 +117,7 @@ fn ring_call(action: Action) -> RingCall
         Action::Send(channel) => RingCall::Send(channel),
         Action::Enter(node) => RingCall::Enter(node),
         Action::Move(node) => RingCall::Move(node),
+        Action::Withdraw(channel) => RingCall::Withdraw(channel),
     }
 }
 

@@ -1,8 +1,8 @@
-// The ring of a site, held once by its controller and changed in place: the nine ring calls of document 01 on a lent ring. A controller
+// The ring of a site, held once by its controller and changed in place: the ring calls on a lent ring. A controller
 // makes one ring by `Ring::fresh()`, keeps it, and lends it to these functions:
 //
 // - while it lays the plan, `add_node`, `add_channel` and then `start`, each of which replies `Done`;
-// - for its tasks, `receive` and `send`, which reply `Done`;
+// - for its tasks, `receive`, `send` and `withdraw`, which reply `Done`;
 // - to keep the messages going, `enter` and `move_on`, at any node it likes. They reply `Done`; a move that delivers replies
 //   `Delivered` with the channel, and the record stands beside it in the reply;
 // - to look, `hops_left`, which answers `Hops`, `waiting_set`, which answers `Waiting`, and `tasks_waiting`, which answers how many tasks
@@ -91,6 +91,16 @@ pub fn move_on(ring: &mut Ring, node: NodeNo) -> Reply
         × (r ≡ replyTo (Runs.move node) (now (ring .entry))) ⌝ }
 {
     let s = by_value::move_on(*ring, node);
+    *ring = s.ring;
+    s.reply
+}
+
+// Gives up a request that still stands in its line.
+pub fn withdraw(ring: &mut Ring, channel: ChannelNo) -> Reply
+    ensures { λ r. ⌜ (now (ring .exit) ≡ ringAfter (Runs.withdraw channel) (now (ring .entry)))
+        × (r ≡ replyTo (Runs.withdraw channel) (now (ring .entry))) ⌝ }
+{
+    let s = by_value::withdraw(*ring, channel);
     *ring = s.ring;
     s.reply
 }

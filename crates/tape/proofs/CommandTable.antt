@@ -15,7 +15,7 @@ use Rattle.batch.specs.declared.BatchRecord.{BatchRecord}
 use Rattle.wire.specs.Bytes.{numberAt, Bytes}
 use Rattle.wire.specs.Record.{recordIn, RecordFits}
 use Rattle.tape.specs.declared.Action.{Action}
-use Rattle.tape.specs.declared.Action.the-variants.{AddNode, AddChannel, Start, Receive, Send, Enter, Move}
+use Rattle.tape.specs.declared.Action.the-variants.{AddNode, AddChannel, Start, Receive, Send, Enter, Move, Withdraw}
 use Rattle.tape.specs.declared.Command.{Command}
 use Rattle.tape.specs.declared.Parts.{Parts}
 use Rattle.tape.specs.declared.Shape.{Shape}
@@ -102,6 +102,7 @@ made (Receive channel) = search needs
 made (Send channel) = search needs
 made (Enter node) = search needs
 made (Move node) = search needs
+made (Withdraw channel) = search needs
 
 pub some-bytes : (a : Action) → 0 < widthOf (shapeOf a)
 some-bytes a = made a .some

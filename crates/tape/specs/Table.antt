@@ -13,7 +13,7 @@ use Rattle.batch.specs.declared.BatchRecord.{BatchRecord}
 use Rattle.batch.specs.Blank.{noRecord}
 use Rattle.numbers.specs.Numbers.{nodeNo, channelNo}
 use Rattle.tape.specs.declared.Action.{Action}
-use Rattle.tape.specs.declared.Action.the-variants.{AddNode, AddChannel, Start, Receive, Send, Enter, Move}
+use Rattle.tape.specs.declared.Action.the-variants.{AddNode, AddChannel, Start, Receive, Send, Enter, Move, Withdraw}
 use Rattle.tape.specs.declared.Command.{Command}
 use Rattle.tape.specs.declared.Parts.{Parts}
 use Rattle.tape.specs.declared.Row as found
@@ -41,6 +41,7 @@ commands =
     ∷ row 0x21 ByteAndRecord (λ channel b. Send (channelNo channel))
     ∷ row 0x22 Byte (λ node b. Enter (nodeNo node))
     ∷ row 0x23 Byte (λ node b. Move (nodeNo node))
+    ∷ row 0x24 Byte (λ channel b. Withdraw (channelNo channel))
     ∷ []
 
 -- the command byte and the operands of one byte of an action, 0 where it has none
@@ -55,6 +56,7 @@ partsOf (Receive channel) = parts 0x20 (channel .0) 0
 partsOf (Send channel) = parts 0x21 (channel .0) 0
 partsOf (Enter node) = parts 0x22 (node .0) 0
 partsOf (Move node) = parts 0x23 (node .0) 0
+partsOf (Withdraw channel) = parts 0x24 (channel .0) 0
 
 -- the row of a byte that no command has, and the row of a command byte
 abbrev pub noRow : ℕ → Row

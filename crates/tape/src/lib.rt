@@ -27,6 +27,7 @@ pub enum Action {
     Send(ChannelNo),
     Enter(NodeNo),
     Move(NodeNo),
+    Withdraw(ChannelNo),
 }
 
 // A command of the tape. Only a send has a record; beside every other action stands the blank one. (The record has a name
@@ -93,6 +94,7 @@ pub fn row_of(code: u8, first: u8, second: u8) -> Row
         0x21 => with_shape(Shape::ByteAndRecord, Action::Send(ChannelNo(first))),
         0x22 => with_shape(Shape::Byte, Action::Enter(NodeNo(first))),
         0x23 => with_shape(Shape::Byte, Action::Move(NodeNo(first))),
+        0x24 => with_shape(Shape::Byte, Action::Withdraw(ChannelNo(first))),
         _ => no_row(),
     }
 }
@@ -122,6 +124,7 @@ pub fn parts_of(action: Action) -> Parts
         Action::Send(channel) => with_operands(0x21, channel.0, 0),
         Action::Enter(node) => with_operands(0x22, node.0, 0),
         Action::Move(node) => with_operands(0x23, node.0, 0),
+        Action::Withdraw(channel) => with_operands(0x24, channel.0, 0),
     }
 }
 

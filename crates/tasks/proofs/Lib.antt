@@ -1,2 +1,3 @@
 -- The laws of the calls of this crate.
 pub mod Offers
+pub mod Withdrawals

@@ -1,4 +1,4 @@
-// The calls at the ends of a channel: receive asks for a record, send offers one.
+// The calls at the ends of a channel: receive asks for a record, withdraw takes a request back while it is in its line, send offers one.
 //
 // Each takes the head of a ring by value, with the cells and the records lent where they lie, and answers the head after the call and the
 // reply. It opens as every call does; then come its own refusals in the order of document 01, and a refusal leaves the ring as it was.
@@ -50,6 +50,43 @@ pub fn receive(
     let receiver = head.receivers[k] as usize;
     let asking = updates::join(head, lines, receiver, channel.0 + 1);
     accept(asking)
+}
+
+// An asking channel's request is taken out of its receiver node's line, and the channel rests; a record that is offered stays offered.
+pub fn withdraw(
+    mut head: Head,
+    slots: &Cells,
+    lines: &mut Cells,
+    offers: &Records,
+    carried: &Records,
+    channel: ChannelNo,
+) -> HeadStep
+    ensures { λ r. ⌜ stepIn r (now (slots .entry)) (now (lines .exit)) (now (offers .entry)) (now (carried .entry))
+        ≡ stepOf (ringIn head (now (slots .entry)) (now (lines .entry)) (now (offers .entry)) (now (carried .entry)))
+        (callRing (Runs.withdraw channel)
+        (ringIn head (now (slots .entry)) (now (lines .entry)) (now (offers .entry)) (now (carried .entry)))) ⌝ }
+{
+    let subject = Subject::Channel(channel);
+    let opening = open(head, slots, lines, offers, carried, subject);
+    if let Opening::Refused(refusal) = opening {
+        return refuse(head, refusal);
+    }
+    let k = channel.0 as usize;
+    let phase = head.phases[k];
+    if phase != Ring::ASKING {
+        return refuse(head, Refusal::NotAsking);
+    }
+    let at = head.receivers[k] as usize;
+    let waiting = head.waiting[at] as usize;
+    let base = network::ROW * at;
+    let cell = channel.0 + 1;
+    let place = updates::index_in(lines, base, waiting, cell);
+    if waiting <= place {
+        return refuse(head, Refusal::RequestInBuffer);
+    }
+    head.phases[k] = Ring::RESTING;
+    let resting = updates::leave_line(head, lines, at, place);
+    accept(resting)
 }
 
 // The record is offered. If the channel is ready, it becomes answering and the record goes out at once as the response.

@@ -34,11 +34,11 @@ use Rattle.network.proofs.Lists.Clauses.{sound-started}
 use Rattle.network.proofs.Lists.Accepted.{first-moving}
 use Rattle.network.proofs.Memory.Held.{Fits, OfferFits, CarriedFits, HeldNode, HeldChannel, SoundRing, record-kept, held-node}
 use Rattle.network.proofs.Memory.Changes.{fits-with-node, fits-with-channel}
-use Rattle.updates.specs.Flat.{appended, cutAt, recorded, capacityAt, usedAt, waitingAt, markAt, phaseAt, offeredAt, senderAt, receiverAt, targetBy, markAfter, leftHead, phasedHead, offeredHead, left, passed, phased, withdrawn, responded, handedOut}
+use Rattle.updates.specs.Flat.{appended, cutAt, recorded, capacityAt, usedAt, waitingAt, markAt, phaseAt, offeredAt, senderAt, receiverAt, targetBy, markAfter, leftHead, phasedHead, offeredHead, left, passed, phased, unoffered, responded, handedOut}
 use Rattle.updates.specs.Answered.{doneStep}
 use Rattle.updates.specs.Known.{CanRespond, Responded, AtNode, Leaves, Takes, Delivers, Passes}
 use Rattle.updates.proofs.Openings.{sound-called, accepts, accepted-fits, marked, unmarked}
-use Rattle.updates.proofs.FlatLaws.{first-cell, left-held, passed-held, phased-held, withdrawn-held, handed-out-held}
+use Rattle.updates.proofs.FlatLaws.{first-cell, left-held, passed-held, phased-held, unoffered-held, handed-out-held}
 use Rattle.updates.proofs.Messages.{Answerable, can-respond, responded-held, response-made}
 use Rattle.updates.proofs.Reading.{node-known, node-there, node-within, node-numbers, node-running, empty-length, asking-code, none-flag}
 
@@ -233,10 +233,10 @@ module _ {ring : Ring} {p cell : ℕ} (t : Takes ring p cell) where
     abbrev bare : Network
     bare = withChannel (channelNo asker) (channel (behind from) (channelNo asker) .phase) none (behind from)
 
-    bare-held : withdrawn (left ring p) asker ≡ hold bare
+    bare-held : unoffered (left ring p) asker ≡ hold bare
     bare-held =
-        ap (λ r. withdrawn r asker) (behind-held from)
-        ∙ withdrawn-held (behind from) (behind-fits from) asker (first from .known)
+        ap (λ r. unoffered r asker) (behind-held from)
+        ∙ unoffered-held (behind from) (behind-fits from) asker (first from .known)
 
     bare-channel : channel bare (channelNo asker)
         ≡ record {
@@ -263,7 +263,7 @@ module _ {ring : Ring} {p cell : ℕ} (t : Takes ring p cell) where
           next-fits = subst Fits (sym response-is) (accepted-fits ring (at from .ok) (Runs.move (nodeNo p)) responds);
         }
 
-    take-responds : callRing (Runs.move (nodeNo p)) ring ≡ accepted done (responded (withdrawn (left ring p) asker) asker x)
+    take-responds : callRing (Runs.move (nodeNo p)) ring ≡ accepted done (responded (unoffered (left ring p) asker) asker x)
     take-responds =
         in-memory (at from)
         ∙ ap heldOutcome responds
@@ -288,7 +288,7 @@ module _ {ring : Ring} {p cell : ℕ} (t : Takes ring p cell) where
           stepIn s slots lines offers carried ≡ stepOf ring (callRing (Runs.move (nodeNo p)) ring)
       take-made ex eo made e =
           rw (eo, es)
-          (response-made ring (withdrawn (left ring p) asker) (take-responds (λ bare. has (rw eh bare))) (rw (eh, ex) at made) e)
+          (response-made ring (unoffered (left ring p) asker) (take-responds (λ bare. has (rw eh bare))) (rw (eh, ex) at made) e)
 
 -- a response is delivered
 

@@ -2,7 +2,7 @@
 -- that is stored is the number of the new node or channel, a row that is rewritten is its row. Assumes nothing.
 use Prim.Native.Nat.{ℕ, suc, _+_, _-_, _*_, _≤_, _<_}
 use mathlib.Core.Path.{_≡_, refl, sym, ap, _∙_}
-use mathlib.Core.Bool.{Bool, true, false, cond, _||_}
+use mathlib.Core.Bool.{Bool, true, false, cond, _&&_, _||_}
 use mathlib.Core.List.{List, [], _∷_, _++_, append-assoc}
 use mathlib.Core.Option.{none, some}
 use native.Mathlib.Nat.{add-zero}
@@ -17,13 +17,14 @@ use Rattle.wire.specs.Record.{recordLength, RecordFits}
 use Rattle.network.specs.Counting.{one, occupied}
 use Rattle.network.specs.Network.{Network, NodeState, ChannelState, Phase, resting, answering, nodeNo, channelNo, nodeCount, channelCount, noNode, noChannel, node, channel, withNode, withChannel}
 use Rattle.network.specs.Sound.{oneMore}
-use Rattle.network.specs.Calls.{joinLine, deliver, leave, pass}
+use Rattle.network.specs.Calls.{joinLine, leaveLine, deliver, leave, pass}
 use Rattle.network.specs.Layout.{nodeRoom, channelRoom, rowLength, cellRoom, row, padded, rows, cellsOf, phaseCode, offeredFlag, offerBytes, carriedBytes, byNode, byChannel, holdHead, hold, withDeliveries, ringIn}
 use Rattle.network.proofs.Memory.Rows.{cells-append, getD-padded, padded-more, length-cells, row-end, getD-row, putRow, put-push}
 use Rattle.network.proofs.Memory.Held.{Fits, HeldNode, HeldChannel, held, held-node, held-channel}
 use Rattle.network.proofs.Memory.Changes.{numbers, cells, numbers-set, numbers-left, cells-set, cells-left, hold-with-node, hold-with-channel}
-use Rattle.updates.specs.Flat.{appended, cutRow, cutAt, joined, left, entered, passed, phased, offered, withdrawn, answered, rested, handedOut}
+use Rattle.updates.specs.Flat.{appended, cutRow, cutAt, joined, shortened, left, entered, passed, phased, offered, unoffered, answered, rested, handedOut}
 use Rattle.updates.proofs.Records.{recorded-row, cleared-row}
+use Rattle.updates.proofs.Lines.{SplitAt}
 
 -- rows
 
@@ -78,6 +79,16 @@ mark-passed true [] = refl
 mark-passed false [] = refl
 mark-passed true (y ∷ ys) = rw (lt-ltb 0 (suc (length ys)) (omega arith))
 mark-passed false (y ∷ ys) = rw (lt-ltb 0 (suc (length ys)) (omega arith))
+
+-- and after one has left a line
+mark-left : (m : Bool) (front back : List ChannelNo) →
+    one (m && occupied (front ++ back)) ≡ cond (ltb 1 (suc (length (front ++ back)))) (one m) 0
+mark-left true [] [] = refl
+mark-left false [] [] = refl
+mark-left true [] (y ∷ ys) = rw (lt-ltb 1 (suc (suc (length ys))) (omega arith))
+mark-left false [] (y ∷ ys) = rw (lt-ltb 1 (suc (suc (length ys))) (omega arith))
+mark-left true (x ∷ xs) ys = rw (lt-ltb 1 (suc (suc (length (xs ++ ys)))) (omega arith))
+mark-left false (x ∷ xs) ys = rw (lt-ltb 1 (suc (suc (length (xs ++ ys)))) (omega arith))
 
 module _ (σ : Network) (fits : Fits σ) where
   -- one node and its rows are changed
@@ -139,6 +150,30 @@ module _ (σ : Network) (fits : Fits σ) where
         (same _ (λ s. cellsOf (s .buffer)) refl)
         (put _ (λ s. cellsOf (s .line))
         (pushed (hold σ .lines) (node σ (nodeNo p) .line) k (held σ .lines-whole) (here .line-row) (here .waiting) room)))
+
+    -- a channel leaves the line where it stands
+    pub shortened-held : (k i : ℕ) → SplitAt k (node σ (nodeNo p) .line) i →
+        shortened (hold σ) p i ≡ hold (leaveLine (nodeNo p) (channelNo k) σ)
+    unfolding hold holdHead
+    shortened-held k i at =
+        let xs : List ChannelNo = at .front ++ at .back in
+        let fewer : length (node σ (nodeNo p) .line) ≡ suc (length xs) =
+        ap length (at .whole) ∙ length-append (at .front) (channelNo k ∷ at .back) ∙ omega (arith, length-append (at .front) (at .back)) in
+        let waits : getD (hold σ .head .waiting) p 0 ≡ suc (length xs) = here .waiting ∙ fewer in
+        let room : length (at .front) + length (at .back) < rowLength =
+        omega (arith, fits .line-fits p l, fewer, length-append (at .front) (at .back)) in
+        ap (λ j. shortened (hold σ) p j) (sym (at .place))
+        ∙ sym
+        (ap (λ ys. hold (withNode (nodeNo p) (node σ (nodeNo p) .buffer) ys (node σ (nodeNo p) .mark && occupied ys) σ)) (at .taken-out)
+        ∙ hold-with-node σ fits p _ xs _ l
+        (kept _ (λ s. length (s .buffer)) refl)
+        (stored _ (λ s. length (s .line)) (sym (ap (λ m. m - 1) waits ∙ one-less (length xs))))
+        (stored _ (λ s. one (s .mark))
+        (mark-left (node σ (nodeNo p) .mark) (at .front) (at .back) ∙ (λ i. cond (ltb 1 (sym waits i)) (sym (here .mark) i) 0)))
+        (same _ (λ s. cellsOf (s .buffer)) refl)
+        (put _ (λ s. cellsOf (s .line))
+        (sym (cut-put (hold σ .lines) p (at .front) (channelNo k) (at .back)
+        (here .line-row ∙ ap (λ ys. padded rowLength (cellsOf ys)) (at .whole)) room))))
 
     pub left-held : (k : ChannelNo) (ks : List ChannelNo) → node σ (nodeNo p) .buffer ≡ k ∷ ks → left (hold σ) p ≡ hold (leave (nodeNo p) ks σ)
     unfolding hold holdHead
@@ -233,9 +268,9 @@ module _ (σ : Network) (fits : Fits σ) where
         (written _ (λ s. offerBytes (s .offer)) (recorded-row (hold σ .offers) k x f))
         (unwritten _ (λ s. carriedBytes (s .phase)) refl))
 
-    pub withdrawn-held : withdrawn (hold σ) k ≡ hold (withChannel (channelNo k) (channel σ (channelNo k) .phase) none σ)
+    pub unoffered-held : unoffered (hold σ) k ≡ hold (withChannel (channelNo k) (channel σ (channelNo k) .phase) none σ)
     unfolding hold holdHead
-    withdrawn-held =
+    unoffered-held =
         sym
         (hold-with-channel σ fits k _ none l
         (left-as _ (λ s. phaseCode (s .phase)) refl)

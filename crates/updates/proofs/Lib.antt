@@ -1,6 +1,7 @@
 -- The laws that the proofs of the calls share.
 pub mod RowChanges
 pub mod Records
+pub mod Lines
 pub mod FlatLaws
 pub mod Openings
 pub mod Messages

@@ -1,4 +1,5 @@
--- A message joins a line after a change of its channel: a request, and a response with the record that it carries. The line has room for it,
+-- A message joins a line after a change of its channel: a request, and a response with the record that it carries; and a request is taken
+-- back out of its line. The line has room for it,
 -- because the ring after the call is sound and so fits its rows. Assumes nothing.
 use Prim.Native.Nat.{ℕ, _+_, _<_}
 use mathlib.Core.Path.{_≡_, refl, ap, subst, _∙_}
@@ -17,14 +18,15 @@ use Rattle.network.specs.declared.HeadStep.{HeadStep}
 use Rattle.network.specs.declared.Ring.{Ring}
 use Rattle.network.specs.Answers.{stepOf}
 use Rattle.network.specs.Network.{Network, NodeState, resting, asking, answering, nodeNo, channelNo, nodeCount, channelCount, noNode, node, channel, withChannel}
-use Rattle.network.specs.Calls.{Outcome, done, accepted, joinLine, request, respond}
+use Rattle.network.specs.Calls.{Outcome, done, accepted, joinLine, request, takeBack, respond}
 use Rattle.network.specs.Layout.{nodeRoom, rowLength, hold, stepIn}
 use Rattle.network.proofs.Memory.Held.{Fits, HeldChannel, held-node, held-channel}
 use Rattle.network.proofs.Memory.Changes.{fits-with-channel}
-use Rattle.updates.specs.Flat.{senderAt, receiverAt, joined, phased, responded}
+use Rattle.updates.specs.Flat.{senderAt, receiverAt, joined, shortened, phased, responded}
 use Rattle.updates.specs.Known.{CanJoin, CanRespond, Responded}
 use Rattle.updates.specs.Answered.{doneStep}
-use Rattle.updates.proofs.FlatLaws.{joined-held, phased-held, answered-held}
+use Rattle.updates.proofs.FlatLaws.{joined-held, shortened-held, phased-held, answered-held}
+use Rattle.updates.proofs.Lines.{SplitAt}
 use Rattle.updates.proofs.Openings.{accepts}
 
 -- where a message has joined a line there was room for it
@@ -70,6 +72,18 @@ module _ (σ : Network) (fits : Fits σ) (k : ℕ) (l : k < channelCount σ) (th
 
   pub asked-room : CanJoin (hold σ .head) (receiverAt (hold σ .head) k)
   asked-room = rw (here-in σ fits k l .receiver) (can-join σ fits _ there (joined-room asks _ (channelNo k) there next))
+
+-- a request taken back, where it stands in the line at index i
+
+pub taken-back-held : (σ : Network) (fits : Fits σ) (k : ℕ) (l : k < channelCount σ) → channel σ (channelNo k) .receiver .0 < nodeCount σ →
+    channel σ (channelNo k) .phase ≡ asking → (i : ℕ) → SplitAt k (node σ (channel σ (channelNo k) .receiver) .line) i →
+    shortened (phased (hold σ) k 0) (receiverAt (hold σ .head) k) i ≡ hold (takeBack (channelNo k) σ)
+taken-back-held σ fits k l there asks i at =
+    let offer = channel σ (channelNo k) .offer in
+    let rests : Network = withChannel (channelNo k) resting offer σ in
+    ap (λ r. shortened r (receiverAt (hold σ .head) k) i) (phased-held σ fits k l resting (rw asks))
+    ∙ ap (λ p. shortened (hold rests) p i) (here-in σ fits k l .receiver)
+    ∙ shortened-held rests (fits-with-channel σ fits k resting offer l (fits .offer-fits k l) tt) _ there k i at
 
 -- a response: channel k may answer with the record x
 

@@ -23,7 +23,7 @@ use Rattle.network.specs.Network.{Network}
 use Rattle.network.specs.Calls.{Event, Outcome, done, refused, accepted, unless}
 use Rattle.network.specs.Calls
 use Rattle.network.specs.Sound.{sound}
-use Rattle.network.specs.Runs.{Call, addNode, addChannel, start, receive, send, enter, move, hopsLeft, waitingSet, call, after}
+use Rattle.network.specs.Runs.{Call, addNode, addChannel, start, receive, send, enter, move, withdraw, hopsLeft, waitingSet, call, after}
 use Rattle.network.specs.Layout.{ringLimits, view, soundRing, heldOutcome, callRing, stepIn}
 use Rattle.network.proofs.Ground.Splits.{by-test, by-same, both-ways}
 use Rattle.network.proofs.Lists.Clauses.{facts}
@@ -121,7 +121,7 @@ module _ (ring : Ring) (ok : soundRing ring ≡ true) where
       test-refused (σ .started) NotStarted (inCount count k none) _ (there-refused k none o same) (rw begun-is at e)
 
   called-refused : (a : Call) {r : Refusal} → soundOpening ring (subjectOf a) ≡ Refused r → call ringLimits a σ ≡ refused r
-  unfolding Calls.addNode Calls.addChannel Calls.start Calls.receive Calls.send Calls.enter Calls.move Calls.hopsLeft Calls.waitingSet
+  unfolding Calls.addNode Calls.addChannel Calls.start Calls.receive Calls.send Calls.enter Calls.move Calls.withdraw Calls.hopsLeft Calls.waitingSet
   called-refused (addNode slots) e = plan-refused _ e
   called-refused (addChannel s r) e = plan-refused _ e
   called-refused start e = plan-refused _ e
@@ -129,6 +129,7 @@ module _ (ring : Ring) (ok : soundRing ring ≡ true) where
   called-refused (send k x) e = going-refused (k .0) NoSuchChannel _ (numbers .channel-count) e
   called-refused (enter p) e = going-refused (p .0) NoSuchNode _ (numbers .node-count) e
   called-refused (move p) e = going-refused (p .0) NoSuchNode _ (numbers .node-count) e
+  called-refused (withdraw k) e = going-refused (k .0) NoSuchChannel _ (numbers .channel-count) e
   called-refused (hopsLeft k) e = going-refused (k .0) NoSuchChannel _ (numbers .channel-count) e
   called-refused (waitingSet p) e = there-refused (p .0) NoSuchNode _ (numbers .node-count) e
 

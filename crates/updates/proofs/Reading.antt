@@ -12,7 +12,7 @@ use Rattle.batch.specs.declared.BatchRecord.{BatchRecord}
 use Rattle.numbers.specs.declared.ChannelNo.{ChannelNo}
 use Rattle.network.specs.declared.Ring.{Ring}
 use Rattle.network.specs.Network.{Phase, resting, asking, ready, answering, nodeCount, channelCount}
-use Rattle.network.specs.Sound.{isResting, isReady, absent}
+use Rattle.network.specs.Sound.{isResting, isAsking, isReady, absent}
 use Rattle.network.specs.Layout.{nodeRoom, channelRoom, rowLength, phaseCode, offeredFlag, view}
 use Rattle.network.proofs.Memory.Held.{SoundRing, sound-ring, HeldNode, HeldChannel}
 use Rattle.updates.specs.Flat.{capacityAt}
@@ -75,6 +75,12 @@ asking-code resting e = absurd (omega arith)
 asking-code asking e = refl
 asking-code ready e = absurd (omega arith)
 asking-code (answering x) e = absurd (omega arith)
+
+pub not-asking-code : (f : Phase) → phaseCode f ≢ 1 → isAsking f ≡ false
+not-asking-code resting d = refl
+not-asking-code asking d = absurd (d refl)
+not-asking-code ready d = refl
+not-asking-code (answering x) d = refl
 
 pub ready-code : (f : Phase) → phaseCode f ≡ 2 → f ≡ ready
 ready-code resting e = absurd (omega arith)

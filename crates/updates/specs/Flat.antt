@@ -69,6 +69,14 @@ abbrev pub enteredHead : Head → ℕ → Head
 enteredHead h p =
     withNodes h (set (h .used) p (usedAt h p + 1)) (set (h .waiting) p (waitingAt h p - 1)) (set (h .marks) p 0)
 
+-- and after one of the messages of its line left, the mark cleared where the line is left empty
+abbrev pub markLeft : ℕ → ℕ → ℕ
+markLeft waiting mark = cond (ltb 1 waiting) mark 0
+
+abbrev pub shortenedHead : Head → ℕ → Head
+shortenedHead h p =
+    withNodes h (h .used) (set (h .waiting) p (waitingAt h p - 1)) (set (h .marks) p (markLeft (waitingAt h p) (markAt h p)))
+
 abbrev pub markAfter : ℕ → ℕ → ℕ
 markAfter waiting mark = cond (ltb 0 waiting) 1 mark
 
@@ -88,6 +96,9 @@ offeredHead h k flag = withChannels h (h .phases) (set (h .offered) k flag)
 abbrev pub joined : Ring → ℕ → ℕ → Ring
 joined r p cell =
     ringIn (joinedHead (r .head) p) (r .slots) (appended (r .lines) p (waitingAt (r .head) p) cell) (r .offers) (r .carried)
+
+abbrev pub shortened : Ring → ℕ → ℕ → Ring
+shortened r p i = ringIn (shortenedHead (r .head) p) (r .slots) (cutAt (r .lines) p i) (r .offers) (r .carried)
 
 abbrev pub left : Ring → ℕ → Ring
 left r p = ringIn (leftHead (r .head) p) (cutAt (r .slots) p 0) (r .lines) (r .offers) (r .carried)
@@ -111,8 +122,8 @@ phased r k phase = ringIn (phasedHead (r .head) k phase) (r .slots) (r .lines) (
 abbrev pub offered : Ring → ℕ → BatchRecord → Ring
 offered r k x = ringIn (offeredHead (r .head) k 1) (r .slots) (r .lines) (recorded (r .offers) k x) (r .carried)
 
-abbrev pub withdrawn : Ring → ℕ → Ring
-withdrawn r k = ringIn (offeredHead (r .head) k 0) (r .slots) (r .lines) (recorded (r .offers) k noRecord) (r .carried)
+abbrev pub unoffered : Ring → ℕ → Ring
+unoffered r k = ringIn (offeredHead (r .head) k 0) (r .slots) (r .lines) (recorded (r .offers) k noRecord) (r .carried)
 
 abbrev pub answered : Ring → ℕ → BatchRecord → Ring
 answered r k x = ringIn (phasedHead (r .head) k 3) (r .slots) (r .lines) (r .offers) (recorded (r .carried) k x)

@@ -1,5 +1,5 @@
 -- What is known where a part of a call is made: the tests that were made before it. Assumes nothing.
-use Prim.Native.Nat.{ℕ, _+_, _-_, _*_, _<_}
+use Prim.Native.Nat.{ℕ, _+_, _-_, _*_, _≤_, _<_}
 use mathlib.Core.Path.{_≡_}
 use mathlib.Core.Logic.{_≢_}
 use mathlib.Core.Bool.{true}
@@ -16,6 +16,18 @@ use Rattle.updates.specs.Flat.{appended, recorded, usedAt, waitingAt, se
 pub record CanJoin (h : Head) (p : ℕ) : Type 0 where
   pub there : p < nodeRoom
   pub room : waitingAt h p < rowLength
+
+-- a message stands at index i of the line of node p, which is no longer than its row
+pub record CanLeave (h : Head) (p i : ℕ) : Type 0 where
+  pub there : p < nodeRoom
+  pub waits : i < waitingAt h p
+  pub within : waitingAt h p ≤ rowLength
+
+-- i is the index at which the cell stands first among the `used` cells from `base` on, or `used` where it is not among them
+pub record FirstAt (cells : List ℕ) (base used cell i : ℕ) : Type 0 where
+  pub within : i ≤ used
+  pub not-before : (j : ℕ) → j < i → getD cells (base + j) 0 ≢ cell
+  pub there : i < used → getD cells (base + i) 0 ≡ cell
 
 -- channel k is there, and its sender node's line has room for one more, as it has on every sound ring where the channel is not on the ring
 pub record CanRespond (h : Head) (k : ℕ) : Type 0 where

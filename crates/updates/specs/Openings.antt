@@ -6,7 +6,7 @@ use Rattle.refusal.specs.declared.Refusal.{Refusal}
 use Rattle.refusal.specs.declared.Refusal.the-variants.{UnsoundRing, AlreadyStarted, NotStarted, NoSuchChannel, NoSuchNode}
 use Rattle.network.specs.declared.Ring.{Ring}
 use Rattle.network.specs.Calls.{unless}
-use Rattle.network.specs.Runs.{Call, addNode, addChannel, start, receive, send, enter, move, hopsLeft, waitingSet}
+use Rattle.network.specs.Runs.{Call, addNode, addChannel, start, receive, send, enter, move, withdraw, hopsLeft, waitingSet}
 use Rattle.network.specs.Layout.{soundRing}
 use Rattle.updates.specs.declared.opening.Subject.{Subject}
 use Rattle.updates.specs.declared.opening.Subject.the-variants.{Plan, Channel, Node, Tasks}
@@ -22,6 +22,7 @@ subjectOf (receive k) = Channel k
 subjectOf (send k x) = Channel k
 subjectOf (enter p) = Node p
 subjectOf (move p) = Node p
+subjectOf (withdraw k) = Channel k
 subjectOf (hopsLeft k) = Channel k
 subjectOf (waitingSet p) = Tasks p
 

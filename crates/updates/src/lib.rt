@@ -10,12 +10,12 @@ use network::Head;
 use network::Records;
 use network::Ring;
 ghost use mathlib.Core.Path.{_≡_};
-ghost use Prim.Native.Nat.{_<_, _+_};
+ghost use Prim.Native.Nat.{_≤_, _<_, _+_};
 ghost use lib.ListN.{length};
 ghost use Rattle.batch.specs.Blank.{noRecord};
 ghost use Rattle.network.specs.Layout.{nodeRoom, channelRoom, rowLength, cellRoom, recordAt};
-ghost use Rattle.updates.specs.Flat.{appended, cutAt, recorded, joinedHead, leftHead, waitingAt, usedAt};
-ghost use Rattle.updates.specs.Known.{CanJoin, CanRespond, Responded};
+ghost use Rattle.updates.specs.Flat.{appended, cutAt, recorded, joinedHead, leftHead, shortenedHead, markLeft, waitingAt, usedAt};
+ghost use Rattle.updates.specs.Known.{CanJoin, CanLeave, CanRespond, FirstAt, Responded};
 
 // A cell is put after the used ones of the row of node `at`.
 pub fn put(cells: &mut Cells, at: usize, used: u8, cell: u8)
@@ -40,6 +40,21 @@ pub fn cut(cells: &mut Cells, at: usize, from: usize)
         j += 1;
     }
     cells[base + last] = 0;
+}
+
+// The index at which the cell stands first among the `used` cells from `base` on, or `used` where it is not among them.
+pub fn index_in(cells: &Cells, base: usize, used: usize, cell: u8) -> usize
+    requires { ⌜ base + used ≤ cellRoom ⌝ }
+    ensures { λ r. ⌜ FirstAt (now (cells .entry)) base used cell r ⌝ }
+{
+    let mut i: usize = 0;
+    while i < used {
+        if cells[base + i] == cell {
+            return i;
+        }
+        i += 1;
+    }
+    used
 }
 
 // The record of channel k.
@@ -77,6 +92,31 @@ pub fn join(mut head: Head, lines: &mut Cells, at: usize, cell: u8) -> Head
     put(lines, at, waiting, cell);
     head.waiting[at] = waiting + 1;
     head
+}
+
+// The message at index `from` leaves the line of node `at`, and the turn mark is cleared if that leaves the line empty.
+pub fn leave_line(mut head: Head, lines: &mut Cells, at: usize, from: usize) -> Head
+    requires { ⌜ CanLeave head at from ⌝ }
+    requires { ⌜ length (now lines) ≡ cellRoom ⌝ }
+    ensures { λ r. ⌜ r ≡ shortenedHead head at ⌝ }
+    ensures { λ r. ⌜ now (lines .exit) ≡ cutAt (now (lines .entry)) at from ⌝ }
+{
+    let waiting = head.waiting[at];
+    let mark = head.marks[at];
+    cut(lines, at, from);
+    head.waiting[at] = waiting - 1;
+    head.marks[at] = mark_left(waiting, mark);
+    head
+}
+
+// The turn mark of a line that one of its `waiting` messages leaves: it is cleared where the line is left empty.
+fn mark_left(waiting: u8, mark: u8) -> u8
+    ensures { λ r. ⌜ r ≡ markLeft waiting mark ⌝ }
+{
+    if 1 < waiting {
+        return mark;
+    }
+    0
 }
 
 // The first message leaves the buffer of node `at`.

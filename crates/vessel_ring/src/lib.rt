@@ -1,5 +1,5 @@
 // The ring for firmware, as C functions: include/vessel_ring.h has their types for C and says how to use them, and `rt staticlib
-// vessel_ring` writes the library. The nine ring calls go on a ring that the caller keeps and lends by pointer; beside them stand the
+// vessel_ring` writes the library. The ring calls go on a ring that the caller keeps and lends by pointer; beside them stand the
 // reader and the writer of commands, the test for a sound ring and the listing of a tape. Every function takes every value: no byte of a
 // ring, a record, a command or a tape is trusted, a refusal answers its number and leaves everything as it was.
 //
@@ -109,6 +109,16 @@ pub extern "C" fn vessel_ring_move(ring: &mut Ring, node: u8) -> Delivery
     let s = by_number::move_on(*ring, node);
     *ring = s.ring;
     s.delivery
+}
+
+#[no_mangle]
+pub extern "C" fn vessel_ring_withdraw(ring: &mut Ring, channel: u8) -> u8
+    ensures { λ r. ⌜ (now (ring .exit) ≡ ringAfter (Runs.withdraw (channelNo channel)) (now (ring .entry)))
+        × (r ≡ numberTo (Runs.withdraw (channelNo channel)) (now (ring .entry))) ⌝ }
+{
+    let s = by_number::withdraw(*ring, channel);
+    *ring = s.ring;
+    s.refusal
 }
 
 #[no_mangle]

@@ -115,6 +115,7 @@ mod c {
         pub fn vessel_ring_send(ring: &mut Ring, channel: u8, record: Record) -> u8;
         pub fn vessel_ring_enter(ring: &mut Ring, node: u8) -> u8;
         pub fn vessel_ring_move(ring: &mut Ring, node: u8) -> Delivery;
+        pub fn vessel_ring_withdraw(ring: &mut Ring, channel: u8) -> u8;
         pub fn vessel_ring_hops_left(ring: &Ring, channel: u8) -> Hops;
         pub fn vessel_ring_waiting_set(ring: &Ring, node: u8) -> Waiting;
         pub fn vessel_ring_is_sound(ring: &Ring) -> u8;
@@ -164,6 +165,10 @@ impl Ring {
 
     pub fn move_on(&mut self, node: u8) -> Delivery {
         unsafe { c::vessel_ring_move(self, node) }
+    }
+
+    pub fn withdraw(&mut self, channel: u8) -> u8 {
+        unsafe { c::vessel_ring_withdraw(self, channel) }
     }
 
     pub fn hops_left(&self, channel: u8) -> Hops {

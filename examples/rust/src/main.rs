@@ -63,6 +63,7 @@ fn damaged(ring: &Ring) {
         copy.send(0, Record::default()),
         copy.enter(0),
         copy.move_on(0).refusal,
+        copy.withdraw(0),
         copy.hops_left(0).refusal,
         copy.waiting_set(0).refusal,
     ];

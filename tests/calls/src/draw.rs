@@ -75,9 +75,9 @@ pub fn plan(random: &mut Random) -> Vec<Call> {
     calls
 }
 
-/// Any of the nine calls, alike often.
+/// Any of the ten calls, alike often.
 pub fn any_call(random: &mut Random, nodes: usize, channels: usize) -> Call {
-    let kind = random.below(9);
+    let kind = random.below(10);
     call_of(random, kind, nodes, channels)
 }
 
@@ -94,13 +94,14 @@ fn call_of(random: &mut Random, kind: usize, nodes: usize, channels: usize) -> C
         5 => Call::Enter(number(random, nodes)),
         6 => Call::Move(number(random, nodes)),
         7 => Call::HopsLeft(number(random, channels)),
+        8 => Call::Withdraw(number(random, channels)),
         _ => Call::WaitingSet(number(random, nodes)),
     }
 }
 
 /// A call on a ring that runs: mostly traffic.
 pub fn running_call(random: &mut Random, nodes: usize, channels: usize) -> Call {
-    let kind = random.pick(&[3, 3, 3, 4, 4, 4, 5, 5, 5, 5, 6, 6, 6, 6, 6, 7, 8]);
+    let kind = random.pick(&[3, 3, 3, 4, 4, 4, 5, 5, 5, 5, 6, 6, 6, 6, 6, 7, 8, 8, 9]);
     if random.percent(97) {
         call_of(random, kind, nodes, channels)
     } else {

@@ -1,7 +1,7 @@
 //! calls COUNT SEED: makes COUNT calls of the library, each also on the model and, where the ring is sound, on the second model, and
 //! compares the answer and every byte of the ring after it.
 //! The rings come from runs from a fresh one, from hand-made ones, and from both with bytes changed. Besides, commands are read and
-//! written. Fails on a difference, and when a refusal from 1 to 26 was never answered.
+//! written. Fails on a difference, when a refusal from 1 to 28 was never answered, and when withdrawals showed too little.
 
 mod draw;
 mod form;
@@ -16,14 +16,65 @@ use std::process::ExitCode;
 use tape::Read;
 use vessel_ring::{Command, Reading, Ring};
 
+/// Accepted withdrawals; those of them that left a marked line empty, so that the mark went; and those that took the first out of a marked
+/// line with others behind it, so that the mark stayed.
+#[derive(Default)]
+struct Withdrawals {
+    all: u64,
+    marks_cleared: u64,
+    marks_kept: u64,
+}
+
+impl Withdrawals {
+    /// An accepted withdrawal, with the ring before it.
+    fn add(&mut self, before: &Ring, channel: u8) {
+        let receiver = usize::from(before.receivers[usize::from(channel)]);
+        let first = before.lines[receiver][0] == channel + 1;
+        self.all += 1;
+        if before.marks[receiver] == 1 && first {
+            self.marks_cleared += u64::from(before.waiting[receiver] == 1);
+            self.marks_kept += u64::from(before.waiting[receiver] > 1);
+        }
+    }
+}
+
 /// How often each refusal was answered; 0 is none.
+#[derive(Default)]
 struct Tally {
     calls: u64,
-    refusals: [u64; 27],
+    refusals: [u64; 29],
     deliveries: u64,
+    withdrawals: Withdrawals,
     damaged: u64,
     still_sound: u64,
     commands: u64,
+}
+
+impl Tally {
+    fn print(&self) {
+        let Tally { calls, deliveries, damaged, still_sound, commands, .. } = self;
+        println!("{calls} calls, {deliveries} deliveries; {damaged} damaged rings, {still_sound} still sound; {commands} commands read or written");
+        let Withdrawals { all, marks_cleared, marks_kept } = self.withdrawals;
+        println!("{all} withdrawals: marks cleared {marks_cleared}, marks kept {marks_kept}");
+        for (number, times) in self.refusals.iter().enumerate().skip(1) {
+            print!("{number}:{times} ");
+        }
+        println!();
+    }
+
+    /// What has to be seen and was not.
+    fn missing(&self) -> Vec<String> {
+        let numbers = self.refusals.iter().enumerate().skip(1);
+        let refusals = numbers.map(|(number, times)| (format!("refusal {number}"), *times));
+        let Withdrawals { all, marks_cleared, marks_kept } = self.withdrawals;
+        let withdrawals = [
+            ("a withdrawal", all),
+            ("a withdrawal that clears a mark", marks_cleared),
+            ("a withdrawal of the first that keeps a mark", marks_kept),
+        ];
+        let withdrawals = withdrawals.map(|(name, times)| (name.to_string(), times));
+        refusals.chain(withdrawals).filter(|(_, times)| *times == 0).map(|(name, _)| name).collect()
+    }
 }
 
 fn to_c(record: Record) -> vessel_ring::Record {
@@ -63,6 +114,7 @@ fn library(ring: &mut Ring, call: Call) -> Answer {
             assert_eq!(moved, blank, "no delivery, so nothing beside the refusal");
             plain(moved.refusal)
         }
+        Call::Withdraw(channel) => plain(ring.withdraw(channel)),
         Call::HopsLeft(channel) => {
             let left = ring.hops_left(channel);
             assert!(left.refusal == 0 || left.hops == 0, "a refusal answers its number alone");
@@ -110,6 +162,9 @@ impl Pair {
         }
         if given != expected {
             return Err(format!("{call:?}: the library answers {given:?}, the model {expected:?}\nbefore: {before:?}"));
+        }
+        if let (Call::Withdraw(channel), Answer::Done) = (call, given) {
+            tally.withdrawals.add(&before, channel);
         }
         if self.ring != after {
             let at = self.ring.to_bytes().iter().zip(after.to_bytes()).position(|(a, b)| *a != b);
@@ -179,6 +234,7 @@ fn command_of(call: Call) -> Option<Command> {
         Call::Send(channel, _) => (0x21, channel, 0),
         Call::Enter(node) => (0x22, node, 0),
         Call::Move(node) => (0x23, node, 0),
+        Call::Withdraw(channel) => (0x24, channel, 0),
         Call::HopsLeft(_) | Call::WaitingSet(_) => return None,
     };
     let record = match call {
@@ -193,7 +249,7 @@ fn commands(random: &mut Random, tally: &mut Tally) -> Result<(), String> {
     let mut tape: Vec<u8> = (0..random.below(100)).map(|_| random.byte()).collect();
     for byte in &mut tape {
         if random.percent(50) {
-            *byte = random.pick(&[0x10, 0x11, 0x12, 0x20, 0x21, 0x22, 0x23]);
+            *byte = random.pick(&[0x10, 0x11, 0x12, 0x20, 0x21, 0x22, 0x23, 0x24]);
         }
     }
     let drawn = random.between(0, tape.len() + 1);
@@ -236,7 +292,7 @@ fn compare_reading(tape: &[u8], place: usize, tally: &mut Tally) -> Result<(), S
     Ok(())
 }
 
-/// All bytes FF: refused by all nine calls.
+/// All bytes FF: refused by all ten calls.
 fn all_ff(tally: &mut Tally, random: &mut Random) -> Result<(), String> {
     let mut pair = Pair::of(Ring::from_bytes(&[0xFF; 7496]));
     for _ in 0..40 {
@@ -269,23 +325,15 @@ fn main() -> ExitCode {
         eprintln!("calls COUNT SEED");
         return ExitCode::from(2);
     };
-    let mut tally = Tally { calls: 0, refusals: [0; 27], deliveries: 0, damaged: 0, still_sound: 0, commands: 0 };
+    let mut tally = Tally::default();
     if let Err(difference) = compare(count, seed, &mut tally) {
         println!("{difference}");
         return ExitCode::FAILURE;
     }
-    let Tally { calls, refusals, deliveries, damaged, still_sound, commands } = tally;
-    println!("{calls} calls, {deliveries} deliveries; {damaged} damaged rings, {still_sound} still sound; {commands} commands read or written");
-    let mut never = Vec::new();
-    for (number, times) in refusals.iter().enumerate().skip(1) {
-        print!("{number}:{times} ");
-        if *times == 0 {
-            never.push(number);
-        }
-    }
-    println!();
-    if !never.is_empty() {
-        println!("never refused with {never:?}");
+    tally.print();
+    let missing = tally.missing();
+    if !missing.is_empty() {
+        println!("never: {}", missing.join(", "));
         return ExitCode::FAILURE;
     }
     println!("no difference");

@@ -1,5 +1,5 @@
-//! Document 01 once more, from its text alone: buffers and lines are queues, and a message's way is walked node by node. Nothing here
-//! knows how a ring lies in memory.
+//! Document 01 with request N1 of 02 once more, from their text alone: buffers and lines are queues, and a message's way is walked node
+//! by node. Nothing here knows how a ring lies in memory.
 
 use std::collections::VecDeque;
 
@@ -72,6 +72,7 @@ pub enum Call {
     Send(u8, Record),
     Enter(u8),
     Move(u8),
+    Withdraw(u8),
     HopsLeft(u8),
     WaitingSet(u8),
 }
@@ -194,6 +195,7 @@ impl Network {
             Call::Send(k, record) => self.send(k.into(), record),
             Call::Enter(p) => self.enter(p.into()),
             Call::Move(p) => self.move_on(p.into()),
+            Call::Withdraw(k) => self.withdraw(k.into()),
             Call::HopsLeft(k) => self.hops_left(k.into()),
             Call::WaitingSet(p) => self.waiting_set(p.into()),
         };
@@ -296,6 +298,20 @@ impl Network {
                 Ok(Answer::Done)
             }
         }
+    }
+
+    /// "27 if the channel is not asking, 28 if its request is in a buffer"; then "the others keep their order, the channel rests, and a
+    /// line left empty has its turn mark cleared".
+    fn withdraw(&mut self, k: usize) -> Refusable<Answer> {
+        refuse_if(!self.started, 8)?;
+        refuse_if(k >= self.channels.len(), 9)?;
+        refuse_if(self.channels[k].phase != Phase::Asking, 27)?;
+        refuse_if(self.nodes.iter().any(|node| node.buffer.contains(&k)), 28)?;
+        let node = &mut self.nodes[self.channels[k].receiver];
+        node.line.retain(|message| *message != k);
+        node.mark &= !node.line.is_empty();
+        self.channels[k].phase = Phase::Resting;
+        Ok(Answer::Done)
     }
 
     fn hops_left(&self, k: usize) -> Refusable<Answer> {

@@ -19,6 +19,7 @@ pub fn call(ring: &Ring, call: Call) -> (Answer, Ring) {
         Call::Send(channel, record) => model.send(ChannelNumber(channel), &read_record(&record_bytes(&record))).map(done),
         Call::Enter(node) => model.enter_at(NodeNumber(node)).map(done),
         Call::Move(node) => model.move_at(NodeNumber(node)).map(|moved| moved.map_or(Answer::Done, delivered)),
+        Call::Withdraw(channel) => model.withdraw(ChannelNumber(channel)).map(done),
         Call::HopsLeft(channel) => model.hops_left(ChannelNumber(channel)).map(|hops| Answer::Hops(hops.into())),
         Call::WaitingSet(node) => model.waiting_set(NodeNumber(node)).map(Answer::Waiting),
     };

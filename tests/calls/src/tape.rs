@@ -1,4 +1,4 @@
-//! The command tape of document 01: read a command, write a command.
+//! The command tape of document 01, with command 24 of 02's N1: read a command, write a command.
 
 use crate::form::{record_bytes, record_in};
 use crate::model::{Call, Record};
@@ -20,6 +20,7 @@ pub fn command_bytes(call: Call) -> Option<Vec<u8>> {
         Call::Send(channel, record) => [&[0x21, channel], record_bytes(&record).as_slice()].concat(),
         Call::Enter(node) => vec![0x22, node],
         Call::Move(node) => vec![0x23, node],
+        Call::Withdraw(channel) => vec![0x24, channel],
         Call::HopsLeft(_) | Call::WaitingSet(_) => return None,
     })
 }
@@ -33,7 +34,7 @@ pub fn read(tape: &[u8], place: usize) -> Read {
         return Read::End;
     };
     let width = match code {
-        0x10 | 0x20 | 0x22 | 0x23 => 2,
+        0x10 | 0x20 | 0x22 | 0x23 | 0x24 => 2,
         0x11 => 3,
         0x12 => 1,
         0x21 => 42,
@@ -49,7 +50,8 @@ pub fn read(tape: &[u8], place: usize) -> Read {
         0x20 => Call::Receive(bytes[1]),
         0x21 => Call::Send(bytes[1], record_of(&bytes[2..42])),
         0x22 => Call::Enter(bytes[1]),
-        _ => Call::Move(bytes[1]),
+        0x23 => Call::Move(bytes[1]),
+        _ => Call::Withdraw(bytes[1]),
     };
     Read::Command(call, place + width)
 }

@@ -151,6 +151,25 @@ fn what_the_model_judges() {
     assert!(!sound_with(&answering(), &[(LENGTH - 1, 1)]), "the last byte");
 }
 
+/// A withdrawal made by hand is the model's; one made by half is no sound ring.
+#[test]
+fn a_withdrawal_by_half() {
+    let mut ring = asking();
+    ring.nodes[0].turn_mark = 1;
+    let [out, shorter, rests, unmarked] = [(LINES, 0), (WAITING, 0), (PHASES, RESTING), (MARKS, 0)];
+    assert!(sound_with(&ring, &[]));
+    assert!(!sound_with(&ring, &[out, shorter]), "the channel still asks");
+    assert!(!sound_with(&ring, &[rests]), "the request is still in the line");
+    assert!(!sound_with(&ring, &[out, rests]), "the line is still as long");
+    assert!(!sound_with(&ring, &[out, shorter, rests]), "the mark is still set");
+    let mut by_hand = laid_out(&ring);
+    for (at, value) in [out, shorter, rests, unmarked] {
+        by_hand[at] = value;
+    }
+    ring.withdraw(ChannelNumber(0)).unwrap();
+    assert!(laid_out(&ring) == by_hand && expected::sound(&by_hand));
+}
+
 // ---- The rings.
 
 #[test]

@@ -140,6 +140,10 @@ fn move_at(node: u8) -> Command {
     Command::Move(NodeNumber(node))
 }
 
+fn withdraw(channel: u8) -> Command {
+    Command::Withdraw(ChannelNumber(channel))
+}
+
 // ---- Records.
 
 /// A good record with this name (at most 32 bytes).
@@ -253,19 +257,23 @@ struct Habits {
     send: usize,
     enter: usize,
     movement: usize,
+    withdraw: usize,
     /// Percent of commands with operands that no look at the ring chose.
     blind: usize,
     /// Percent of commands drawn without regard to any limit.
     wild: usize,
 }
 
-const STEADY: Habits = Habits { receive: 10, send: 10, enter: 20, movement: 60, blind: 3, wild: 1 };
-const LEGAL: Habits = Habits { receive: 10, send: 10, enter: 20, movement: 60, blind: 0, wild: 0 };
+const STEADY: Habits =
+    Habits { receive: 10, send: 10, enter: 20, movement: 60, withdraw: 3, blind: 3, wild: 1 };
+/// Draws the benchmark's tapes too: without withdrawals they stay what they are.
+const LEGAL: Habits =
+    Habits { receive: 10, send: 10, enter: 20, movement: 60, withdraw: 0, blind: 0, wild: 0 };
 /// Fills lines and buffers, then goes on blindly: full buffers and turn marks.
 const CROWDED: Habits =
-    Habits { receive: 25, send: 8, enter: 30, movement: 37, blind: 30, wild: 1 };
+    Habits { receive: 25, send: 8, enter: 30, movement: 37, withdraw: 6, blind: 30, wild: 1 };
 const UNRULY: Habits =
-    Habits { receive: 15, send: 15, enter: 25, movement: 45, blind: 30, wild: 20 };
+    Habits { receive: 15, send: 15, enter: 25, movement: 45, withdraw: 8, blind: 30, wild: 20 };
 
 fn draw_habits(random: &mut Random) -> Habits {
     Habits {
@@ -273,6 +281,7 @@ fn draw_habits(random: &mut Random) -> Habits {
         send: random.between(3, 20),
         enter: random.between(5, 40),
         movement: random.between(20, 90),
+        withdraw: random.pick(&[0, 2, 5, 15]),
         blind: random.pick(&[0, 1, 5, 20, 50]),
         wild: random.pick(&[0, 0, 1, 3, 10]),
     }
@@ -291,13 +300,15 @@ fn run(writer: &mut Writer, random: &mut Random, habits: Habits, limit: usize) {
 }
 
 fn next_command(ring: &Ring, random: &mut Random, habits: Habits) -> Command {
-    let weights = [habits.receive, habits.send, habits.enter, habits.movement];
+    let weights = [habits.receive, habits.send, habits.enter, habits.movement, habits.withdraw];
     let kind = weighted(random, &weights);
     let looks = !random.percent(habits.blind);
     if looks {
-        // The drawn kind if it would be accepted, else another that would.
-        for turn in 0..4 {
-            if let Some(command) = accepted_command(ring, random, (kind + turn) % 4) {
+        // The drawn kind if it would be accepted, else another that would. No
+        // withdrawal stands in for another kind: it would undo what was reached.
+        let others = (1..=4).map(|turn| (kind + turn) % 4).filter(|&other| other != kind);
+        for kind in std::iter::once(kind).chain(others) {
+            if let Some(command) = accepted_command(ring, random, kind) {
                 return command;
             }
         }
@@ -309,7 +320,8 @@ fn next_command(ring: &Ring, random: &mut Random, habits: Habits) -> Command {
         1 if random.percent(30) => send(channel, bad_record(random)),
         1 => send(channel, good_record(random)),
         2 => enter(node),
-        _ => move_at(node),
+        3 => move_at(node),
+        _ => withdraw(channel),
     }
 }
 
@@ -335,7 +347,10 @@ fn accepted_command(ring: &Ring, random: &mut Random, kind: usize) -> Option<Com
             .find(|&at| ring.channels[at as usize].offer.is_none())
             .map(|at| send(at, good_record(random))),
         2 => node().find(|&at| enter_looks_good(ring, at)).map(enter),
-        _ => node().find(|&at| move_looks_good(ring, at)).map(move_at),
+        3 => node().find(|&at| move_looks_good(ring, at)).map(move_at),
+        _ => around(random, ring.channel_count)
+            .find(|&at| withdraw_looks_good(ring, at))
+            .map(withdraw),
     }
 }
 
@@ -363,6 +378,12 @@ fn move_looks_good(ring: &Ring, at: u8) -> bool {
     target.0 == next || (there.buffer_length < there.slots && there.turn_mark == 0)
 }
 
+fn withdraw_looks_good(ring: &Ring, at: u8) -> bool {
+    let channel = &ring.channels[at as usize];
+    let line = &ring.lines[channel.receiver.0 as usize * SLOTS..][..SLOTS];
+    channel.phase == ASKING && line.contains(&(at + 1))
+}
+
 // ---- Commands drawn without looking.
 
 /// A number near the limits 0, 16, 64 and 255 more often than others.
@@ -376,13 +397,14 @@ fn edge_number(random: &mut Random) -> u8 {
 
 fn wild_command(random: &mut Random) -> Command {
     let (one, two) = (edge_number(random), edge_number(random));
-    match random.below(8) {
+    match random.below(9) {
         0 => add_node(one),
         1 => add_channel(one, two),
         2 => Command::Start,
         3 => receive(one),
         4 => send(one, wild_record(random)),
         5 => enter(one),
+        6 => withdraw(one),
         _ => move_at(one),
     }
 }
@@ -545,7 +567,8 @@ fn same_node_tape(random: &mut Random) -> Vec<u8> {
 // ---- Aimed tapes.
 
 fn aimed_tapes(random: &mut Random) -> Vec<Vec<u8>> {
-    let mut tapes = vec![Vec::new(), listing_tape(), turn_tape(), every_refusal_tape()];
+    let mut tapes = vec![Vec::new(), listing_tape(), turn_tape(), many_refusals_tape()];
+    tapes.extend([freed_move_tape(), kept_mark_tape(), undone_receives_tape(), long_line_tape()]);
     tapes.extend(record_edge_tapes());
     tapes.extend(plan_edge_tapes());
     tapes.extend(size_tapes(random));
@@ -573,20 +596,82 @@ pub fn turn_tape() -> Vec<u8> {
     writer.bytes
 }
 
-/// 1 to 22 on one tape; a tape has 22 or 23 once, at its end.
-fn every_refusal_tape() -> Vec<u8> {
+/// A withdrawal frees a move: the plan of the turn case, where the move at node
+/// 0 is 21 until the only request in node 1's line is taken out, and the mark
+/// with it.
+pub fn freed_move_tape() -> Vec<u8> {
+    let mut writer = Writer::new();
+    writer.add_all(&[add_node(1), add_node(2), add_node(1)]);
+    writer.add_all(&[add_channel(2, 0), add_channel(2, 1), add_channel(2, 0), Command::Start]);
+    writer.add_all(&[receive(0), receive(1), receive(2), enter(0), move_at(0), enter(0)]);
+    writer.add_all(&[move_at(0), withdraw(1), move_at(0)]);
+    writer.bytes
+}
+
+/// The first of a marked line is withdrawn: the mark stays, and the move at node
+/// 0 is 21, while another waits in the line; it goes with the last.
+pub fn kept_mark_tape() -> Vec<u8> {
+    let mut writer = Writer::new();
+    writer.add_all(&[add_node(1), add_node(3), add_node(1), add_channel(2, 0), add_channel(2, 1)]);
+    writer.add_all(&[add_channel(2, 1), add_channel(2, 0), Command::Start]);
+    writer.add_all(&[receive(0), receive(1), receive(2), enter(0), move_at(0), withdraw(1)]);
+    writer.add_all(&[receive(3), enter(0), move_at(0), withdraw(2), move_at(0)]);
+    writer.bytes
+}
+
+/// How many receives `undone_receives_tape` undoes.
+pub const UNDONE_RECEIVES: u32 = 1_000;
+
+/// A thousand receives undone between a match and its delivery, which they do
+/// not put off: the record of channel 0 arrives as if they had not been.
+pub fn undone_receives_tape() -> Vec<u8> {
+    let mut writer = Writer::new();
+    writer.add_all(&[add_node(1), add_node(2), add_channel(0, 0), add_channel(1, 1)]);
+    writer.add_all(&[Command::Start, send(0, record_named(b"A1")), receive(0)]);
+    (0..UNDONE_RECEIVES).for_each(|_| writer.add_all(&[receive(1), withdraw(1)]));
+    writer.add_all(&[enter(0), move_at(0), move_at(1), enter(0), move_at(0), move_at(1)]);
+    writer.bytes
+}
+
+/// The longest line, 64 requests at node 0, with requests taken out at its ends
+/// and in between; the records then arrive in the order of those left. One that
+/// was taken out and asks again is the last.
+pub fn long_line_tape() -> Vec<u8> {
+    let mut writer = Writer::new();
+    writer.add_all(&[add_node(64), add_node(1)]);
+    let all = 0..CHANNELS as u8;
+    all.clone().for_each(|_| writer.add(add_channel(1, 0)));
+    writer.add(Command::Start);
+    all.clone().for_each(|at| writer.add(send(at, record_named(b"A1"))));
+    all.clone().for_each(|at| writer.add(receive(at)));
+    for at in [63, 0, 1, 31, 32, 17, 62, 61] {
+        writer.add(withdraw(at));
+    }
+    writer.add_all(&[receive(31), withdraw(2), receive(2)]);
+    for _ in all {
+        writer.add_all(&[enter(0), move_at(0), enter(1), move_at(1)]);
+    }
+    writer.bytes
+}
+
+/// Most refusals on one tape, 27 and 28 among them; a tape has 22 or 23 once, at
+/// its end.
+fn many_refusals_tape() -> Vec<u8> {
     let good = record_named(b"A1");
     let mut writer = Writer::new();
     // 8 and, before any node, 6, 5 and 3.
-    writer.add_all(&[receive(0), send(0, good), enter(0), move_at(0), Command::Start]);
+    writer.add_all(&[receive(0), send(0, good), enter(0), move_at(0), withdraw(0)]);
+    writer.add(Command::Start);
     writer.add_all(&[add_channel(0, 0), add_node(0), add_node(65), add_node(1), Command::Start]);
     writer.add_all(&[add_channel(0, 1), add_channel(1, 0), add_channel(0, 0), Command::Start]);
     (0..16).for_each(|_| writer.add(add_node(1)));
     writer.add(add_node(0));
     (0..14).for_each(|_| writer.add(add_channel(0, 15)));
     writer.add_all(&[Command::Start, add_node(1), add_channel(0, 0), Command::Start]);
-    writer.add_all(&[receive(15), receive(0), receive(0), enter(16), move_at(16)]);
-    writer.add_all(&[enter(1), enter(0), receive(1), enter(15), move_at(15), move_at(15)]);
+    // 9, 27, 10, 16, 17, and 28 once the request of channel 0 has entered.
+    writer.add_all(&[receive(15), withdraw(15), withdraw(0), receive(0), receive(0)]);
+    writer.add_all(&[enter(16), move_at(16), enter(1), enter(0), withdraw(0)]);
+    writer.add_all(&[receive(1), enter(15), move_at(15), move_at(15)]);
     writer.add_all(&[receive(2), enter(15), receive(3), enter(15), enter(15), move_at(1)]);
     writer.add_all(&[move_at(0), move_at(0), move_at(0), enter(0)]);
     for record in edge_records() {
@@ -746,6 +831,7 @@ fn cut_tapes() -> Vec<Vec<u8>> {
         send(0, record_named(b"A1")),
         enter(0),
         move_at(0),
+        withdraw(0),
     ];
     let mut tapes = Vec::new();
     for command in whole {

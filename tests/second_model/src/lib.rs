@@ -1,7 +1,9 @@
 //! The second model of the vessel ring: document 01 ("The vessel ring: nodes,
-//! channels, slots and records") written down once more in plain Rust, from
-//! that text alone. Comments quote the sentence of 01 that the code follows.
+//! channels, slots and records") with request N1 of document 02 ("A task that
+//! gives up"), written down once more in plain Rust, from those texts alone.
+//! Comments quote the sentence that the code follows, of 01 unless they say 02.
 
+pub mod coverage;
 pub mod generate;
 pub mod listing;
 pub mod ring;

@@ -24,13 +24,13 @@ pub struct Totals {
     pub refused: u32,
     pub delivered: u32,
     /// How often each refusal number was answered.
-    pub refusals: [u32; 27],
+    pub refusals: [u32; 29],
 }
 
 /// Runs a tape from a fresh ring and puts its listing behind what `out` holds.
 pub fn run(tape: &[u8], out: &mut Vec<u8>) -> Totals {
     let mut totals =
-        Totals { too_long: false, accepted: 0, refused: 0, delivered: 0, refusals: [0; 27] };
+        Totals { too_long: false, accepted: 0, refused: 0, delivered: 0, refusals: [0; 29] };
     if tape.len() > TAPE_LIMIT {
         totals.too_long = true;
         out.extend_from_slice(TOO_LONG);
@@ -72,6 +72,7 @@ pub fn apply(ring: &mut Ring, command: &Command) -> Result<Option<Delivery>, Ref
         Command::Send(channel, record) => ring.send(*channel, record)?,
         Command::Enter(node) => ring.enter_at(*node)?,
         Command::Move(node) => return ring.move_at(*node),
+        Command::Withdraw(channel) => ring.withdraw(*channel)?,
     }
     Ok(None)
 }

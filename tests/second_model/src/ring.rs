@@ -1,4 +1,4 @@
-//! The ring: its state, what makes it sound, seven operations and two
+//! The ring: its state, what makes it sound, eight operations and two
 //! questions. All state is in fixed arrays of integers and records, so a ring
 //! handed in from outside can be wrong, and `sound` finds out.
 //!
@@ -25,7 +25,7 @@ pub struct ChannelNumber(pub u8);
 #[derive(Clone, Copy, PartialEq, Eq, Debug)]
 pub struct BatchNumber(pub u32);
 
-/// The refusals of document 01, with its numbers.
+/// The refusals of document 01, with its numbers; 27 and 28 are of 02's N1.
 #[derive(Clone, Copy, PartialEq, Eq, Debug)]
 #[repr(u8)]
 pub enum Refusal {
@@ -55,6 +55,8 @@ pub enum Refusal {
     PlaceBeyond = 24,
     Unsound = 25,
     NoRoomToWrite = 26,
+    NotAsking = 27,
+    RequestInBuffer = 28,
 }
 
 fn require(condition: bool, else_refused: Refusal) -> Result<(), Refusal> {
@@ -377,6 +379,28 @@ impl Ring {
         }
     }
 
+    /// 02, N1: "after 8 and 9, 27 if the channel is not asking, 28 if its request
+    /// is in a buffer." Then "it is taken out, the others keep their order, the
+    /// channel rests, and a line left empty has its turn mark cleared." Only the
+    /// request goes: a record offered stays, and so does the mark of a line that
+    /// is not left empty.
+    pub fn withdraw(&mut self, number: ChannelNumber) -> Result<(), Refusal> {
+        self.require_sound()?;
+        self.require_started()?;
+        self.require_channel(number)?;
+        let channel = &self.channels[number.0 as usize];
+        require(channel.phase == ASKING, Refusal::NotAsking)?;
+        let receiver = channel.receiver;
+        let place = self.place_in_line(receiver, number).ok_or(Refusal::RequestInBuffer)?;
+        let node = &mut self.nodes[receiver.0 as usize];
+        take_out(block_mut(&mut self.lines, receiver), &mut node.line_length, place);
+        if node.line_length == 0 {
+            node.turn_mark = 0;
+        }
+        self.channels[number.0 as usize].phase = RESTING;
+        Ok(())
+    }
+
     // ---- Questions.
 
     /// "Hops left: 8; 9." The answer is at most 16 + 16.
@@ -487,6 +511,11 @@ impl Ring {
     fn buffer_of(&self, number: ChannelNumber) -> Option<NodeNumber> {
         let message = number.0 + 1;
         (0..self.node_count).map(NodeNumber).find(|&at| block(&self.slots, at).contains(&message))
+    }
+
+    /// Where in the node's line the channel's message is, the first being 0.
+    fn place_in_line(&self, at: NodeNumber, number: ChannelNumber) -> Option<usize> {
+        block(&self.lines, at).iter().position(|&cell| cell == number.0 + 1)
     }
 
     fn added_nodes(&self) -> &[Node] {
@@ -710,11 +739,16 @@ fn push(block: &mut [u8; SLOTS], length: &mut u8, message: ChannelNumber) {
 
 fn pop(block: &mut [u8; SLOTS], length: &mut u8) -> ChannelNumber {
     let first = first_message(block);
+    take_out(block, length, 0);
+    first
+}
+
+/// Takes the message at a place out of a queue; those behind it move up.
+fn take_out(block: &mut [u8; SLOTS], length: &mut u8, place: usize) {
     let last = *length as usize - 1;
-    block.copy_within(1..=last, 0);
+    block.copy_within(place + 1..=last, place);
     block[last] = 0;
     *length -= 1;
-    first
 }
 
 /// The queue in a block; nothing unless just as many cells as the queue is long

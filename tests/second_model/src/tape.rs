@@ -12,6 +12,7 @@ pub enum Command {
     Send(ChannelNumber, Record),
     Enter(NodeNumber),
     Move(NodeNumber),
+    Withdraw(ChannelNumber),
 }
 
 pub const ADD_NODE: u8 = 0x10;
@@ -21,6 +22,8 @@ pub const RECEIVE: u8 = 0x20;
 pub const SEND: u8 = 0x21;
 pub const ENTER: u8 = 0x22;
 pub const MOVE: u8 = 0x23;
+/// 02, N1: "command 24 (hexadecimal ...; its operand is the channel, one byte)".
+pub const WITHDRAW: u8 = 0x24;
 
 /// The largest width: command byte, then "channel 1, batch number 4, vessel 1,
 /// temperature 2, name length 1, name 32".
@@ -30,7 +33,7 @@ pub const SEND_WIDTH: usize = 42;
 pub fn width(command_byte: u8) -> Option<usize> {
     match command_byte {
         START => Some(1),
-        ADD_NODE | RECEIVE | ENTER | MOVE => Some(2),
+        ADD_NODE | RECEIVE | ENTER | MOVE | WITHDRAW => Some(2),
         ADD_CHANNEL => Some(3),
         SEND => Some(SEND_WIDTH),
         _ => None,
@@ -47,6 +50,7 @@ impl Command {
             Command::Send(..) => SEND,
             Command::Enter(_) => ENTER,
             Command::Move(_) => MOVE,
+            Command::Withdraw(_) => WITHDRAW,
         }
     }
 
@@ -83,7 +87,8 @@ pub fn read(bytes: &[u8], place: usize) -> Result<Read, Refusal> {
         RECEIVE => Command::Receive(ChannelNumber(operands[0])),
         SEND => Command::Send(ChannelNumber(operands[0]), read_record(&operands[1..])),
         ENTER => Command::Enter(NodeNumber(operands[0])),
-        _ => Command::Move(NodeNumber(operands[0])),
+        MOVE => Command::Move(NodeNumber(operands[0])),
+        _ => Command::Withdraw(ChannelNumber(operands[0])),
     };
     Ok(Read::Command(command, place + width))
 }
@@ -114,7 +119,7 @@ pub fn write(command: &Command, bytes: &mut [u8], place: usize) -> Result<usize,
             part[2] = receiver.0;
         }
         Command::Start => {}
-        Command::Receive(channel) => part[1] = channel.0,
+        Command::Receive(channel) | Command::Withdraw(channel) => part[1] = channel.0,
         Command::Send(channel, ref record) => {
             part[1] = channel.0;
             write_record(record, &mut part[2..]);

@@ -302,8 +302,8 @@ fn questions() {
 }
 
 /// On generated tapes: the ring stays sound, k delivered records are the first k
-/// offered, an accepted move uses up one hop and nothing else does, a refusal
-/// changes nothing.
+/// offered, an accepted move uses up one hop, a withdrawal gives up all hops of
+/// its channel and nothing else uses one up, a refusal changes nothing.
 #[test]
 fn runs() {
     let tapes = Tapes::new(5);
@@ -350,6 +350,10 @@ fn check_hops(before: &Ring, after: &Ring, command: &Command, accepted: bool) {
         Command::Move(_) if accepted => assert_eq!(left(after) + 1, left(before)),
         Command::Receive(at) if accepted => {
             assert_eq!(left(after), left(before) + after.hops_left(*at).unwrap() as u32)
+        }
+        Command::Withdraw(at) if accepted => {
+            assert_eq!(left(after) + before.hops_left(*at).unwrap() as u32, left(before));
+            assert_eq!(after.hops_left(*at), Ok(0));
         }
         _ => assert_eq!(left(after), left(before)),
     }

@@ -99,6 +99,8 @@ fn assert_unsound(clause: &str, ring: &Ring) {
         after.enter_at(node(99)).err(),
         after.move_at(node(3)).err(),
         after.move_at(node(99)).err(),
+        after.withdraw(channel(1)).err(),
+        after.withdraw(channel(99)).err(),
         after.hops_left(channel(0)).err(),
         after.hops_left(channel(99)).err(),
         after.waiting_set(node(0)).err(),

@@ -4,12 +4,12 @@ use second_model::generate::{record_named, Random};
 use second_model::ring::{BatchNumber, ChannelNumber, NodeNumber, Record, Refusal};
 use second_model::tape::{read, width, write, Command, Read};
 
-const COMMAND_BYTES: [u8; 7] = [0x10, 0x11, 0x12, 0x20, 0x21, 0x22, 0x23];
+const COMMAND_BYTES: [u8; 8] = [0x10, 0x11, 0x12, 0x20, 0x21, 0x22, 0x23, 0x24];
 
 /// "The writer takes every operand value": any at all.
 fn any_command(random: &mut Random) -> Command {
     let (one, two) = (random.byte(), random.byte());
-    match random.below(7) {
+    match random.below(8) {
         0 => Command::AddNode { slots: one },
         1 => Command::AddChannel { sender: NodeNumber(one), receiver: NodeNumber(two) },
         2 => Command::Start,
@@ -25,7 +25,8 @@ fn any_command(random: &mut Random) -> Command {
             Command::Send(ChannelNumber(one), record)
         }
         5 => Command::Enter(NodeNumber(one)),
-        _ => Command::Move(NodeNumber(one)),
+        6 => Command::Move(NodeNumber(one)),
+        _ => Command::Withdraw(ChannelNumber(one)),
     }
 }
 

@@ -7,7 +7,7 @@ use mathlib.Core.Option.{Option, none, some}
 use borrow.Author.Tests.{not-true}
 use Rattle.batch.specs.declared.BatchRecord.{BatchRecord}
 use Rattle.network.specs.Network.{Phase, resting, asking, ready, answering}
-use Rattle.network.specs.Sound.{isResting, isReady, absent}
+use Rattle.network.specs.Sound.{isResting, isAsking, isReady, absent}
 use Rattle.network.proofs.Ground.Splits.{and-left, and-right, and-both}
 
 -- two clauses joined, three, and six: each part of the test read as what it says
@@ -55,6 +55,12 @@ resting-is resting e = refl
 resting-is asking e = absurd (false≢true e)
 resting-is ready e = absurd (false≢true e)
 resting-is (answering x) e = absurd (false≢true e)
+
+pub asking-is : (f : Phase) → isAsking f ≡ true → f ≡ asking
+asking-is resting e = absurd (false≢true e)
+asking-is asking e = refl
+asking-is ready e = absurd (false≢true e)
+asking-is (answering x) e = absurd (false≢true e)
 
 pub ready-is : (f : Phase) → isReady f ≡ true → f ≡ ready
 ready-is resting e = absurd (false≢true e)

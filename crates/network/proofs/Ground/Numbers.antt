@@ -2,12 +2,14 @@
 -- comes from. Assumes nothing.
 use Prim.Native.Nat.{ℕ}
 use mathlib.Core.Path.{_≡_, refl, ap}
+use mathlib.Core.Bool.{Bool, true, false, cond}
 use mathlib.Core.List.{List, [], _∷_, _++_, map, nil≢cons}
+use lib.Dec.{eqb}
 use lib.ListN.{length, getD, length-map}
 use Rattle.numbers.specs.declared.NodeNo.{NodeNo}
 use Rattle.numbers.specs.declared.ChannelNo.{ChannelNo}
-use Rattle.network.specs.Counting.{occupied}
-use Rattle.network.specs.Network.{Phase, resting, asking, ready, answering, channelNo, numbersOf, fromEnd}
+use Rattle.network.specs.Counting.{withoutFirst, occupied}
+use Rattle.network.specs.Network.{Phase, resting, asking, ready, answering, channelNo, sameChannel, numbersOf, without, fromEnd}
 
 pub map-append {ℓ κ} : {A : Type ℓ} {B : Type κ} (f : A → B) (xs ys : List A) → map f (xs ++ ys) ≡ map f xs ++ map f ys
 map-append f [] ys = refl
@@ -22,6 +24,16 @@ length-numbers ks = length-map ks (λ (k : ChannelNo). k .0)
 pub occupied-numbers : (ks : List ChannelNo) → occupied (numbersOf ks) ≡ occupied ks
 occupied-numbers [] = refl
 occupied-numbers (k ∷ ks) = refl
+
+-- taking a channel out takes its number out
+pub numbers-without : (k : ChannelNo) (js : List ChannelNo) → numbersOf (without k js) ≡ withoutFirst (λ j. eqb j (k .0)) (numbersOf js)
+numbers-without k [] = refl
+numbers-without k (j ∷ js) = by-first (sameChannel j k) (numbers-without k js)
+  where
+    by-first : (b : Bool) → numbersOf (without k js) ≡ withoutFirst (λ i. eqb i (k .0)) (numbersOf js) →
+        numbersOf (cond b js (j ∷ without k js)) ≡ cond b (numbersOf js) (j .0 ∷ withoutFirst (λ i. eqb i (k .0)) (numbersOf js))
+    by-first true rest = refl
+    by-first false rest = ap (λ ns. j .0 ∷ ns) rest
 
 -- a queue whose numbers begin with k begins with channel k
 pub numbers-first : (js : List ChannelNo) {k : ℕ} {ks : List ℕ} → numbersOf js ≡ k ∷ ks → (rest : List ChannelNo) × (js ≡ channelNo k ∷ rest)

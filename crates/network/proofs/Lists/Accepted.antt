@@ -1,5 +1,5 @@
--- Lists. The calls on a sound started ring, one by one: an accepted receive, send, entry or move is a step of the theory, and leaves the
--- sizes and ends as they are. Each law follows the order of a call's refusals and says nothing where one applies. Assumes nothing.
+-- Lists. The calls on a sound started ring, one by one: an accepted receive, send, entry, move or withdrawal is a step of the theory, and
+-- leaves the sizes and ends as they are. Each law follows the order of a call's refusals and says nothing where one applies. Assumes nothing.
 use Prim.Native.Nat.{ℕ, _+_, _≤_, _<_}
 use mathlib.Core.Path.{_≡_, refl, sym, ap, subst, _∙_}
 use mathlib.Core.Logic.{_≢_, ⊎-elim}
@@ -20,21 +20,21 @@ use Rattle.hops.specs.Hops.{next}
 use Rattle.hops.proofs.Laws
 use Rattle.network.specs.Counting.{one, sum, count}
 use Rattle.network.specs.Network.{Network, Phase, resting, asking, ready, answering, numbersOf, nodeCount, channelCount, node, channel, nextNode, moving, withChannel}
-use Rattle.network.specs.Sound.{Limits, lastCount, oneMore, isResting, isReady, absent}
-use Rattle.network.specs.Calls.{Event, done, delivered, Outcome, refused, unless, Arrival, taken, passing, arrived, arrival, joinLine, respond, takeRequest, deliver, leave, hasSlot, handOver}
+use Rattle.network.specs.Sound.{Limits, lastCount, oneMore, isResting, isAsking, isReady, absent}
+use Rattle.network.specs.Calls.{Event, done, delivered, Outcome, refused, unless, Arrival, taken, passing, arrived, arrival, joinLine, inReceiverLine, takeBack, respond, takeRequest, deliver, leave, hasSlot, handOver}
 use Rattle.network.specs.Calls
-use Rattle.network.specs.Runs.{Call, call, counts}
+use Rattle.network.specs.Runs.{Call, call}
 use Rattle.network.specs.Runs
 use Rattle.network.proofs.Ground.Splits.{by-test, by-same, by-list, by-phase, both-ways}
 use Rattle.network.proofs.Ground.Numbers.{length-numbers}
 use Rattle.network.proofs.Ground.Counting.{sum-term, count-same, weigh-cons}
-use Rattle.network.proofs.Ground.Joined.{resting-is, ready-is, absent-is}
+use Rattle.network.proofs.Ground.Joined.{resting-is, asking-is, ready-is, absent-is}
 use Rattle.hops.proofs.Laws.{next-below}
-use Rattle.network.proofs.Theory.State.{Net, State, Sound, Did, did-receive, did-offer, did-answer, did-enter, did-pass, did-ask, did-respond, did-deliver, targetIn, turn, join, pop, pass}
-use Rattle.network.proofs.Lists.Tables.{netOf, stateOf, Becomes, and-then, recounted, still-node, turned, joined, popped, passed, pushed}
+use Rattle.network.proofs.Theory.State.{Net, State, Sound, Did, did-receive, did-offer, did-answer, did-enter, did-pass, did-ask, did-respond, did-deliver, did-withdraw, targetIn, turn, join, pop, pass}
+use Rattle.network.proofs.Lists.Tables.{netOf, stateOf, Becomes, and-then, recounted, still-node, turned, joined, pulled, popped, passed, pushed}
 use Rattle.network.proofs.Theory.Weight.{target-below}
 use Rattle.network.proofs.Theory.Kept.{first-passes}
-use Rattle.network.proofs.Lists.Outcomes.{After, not-done, was-done, after-some, if-met, if-good, Silent, silent}
+use Rattle.network.proofs.Lists.Outcomes.{After, not-done, was-done, after-some, if-met, if-good, Silent, unseen}
 use Rattle.network.proofs.Lists.Clauses.{Started}
 
 -- an accepted step: it is one of the theory, and what the theory does not see stays within its bounds
@@ -46,7 +46,7 @@ pub record Stepped (σ : Network) (a : Call) (e : Event) (τ : Network) : Type 0
 
 -- how a call on a sound started ring is accepted: it is a step, or a question that leaves the ring
 pub data Answered (σ : Network) (a : Call) (e : Event) (τ : Network) : Type 0 where
-  by-step : counts a ≡ true → Stepped σ a e τ → Answered σ a e τ
+  by-step : Stepped σ a e τ → Answered σ a e τ
   by-question : Silent a e → τ ≡ σ → Answered σ a e τ
 
 -- a message that is not taken at the next node leaves its own: on a ring of one node it would be taken
@@ -131,6 +131,15 @@ module _ (L : Limits) (σ : Network) (h : Started L σ) where
           stepped _ (did-answer (k .0) x lk g (ready-is _ r)) (announced σ _ k _ _ (tables .sender-below (k .0) lk) lk) delivery-limit
       offered lk g a false r = stepped _ (did-offer (k .0) x lk g a r) (turned σ k _ _ lk) delivery-limit
 
+  pub withdraw-did : (k : ChannelNo) → After (Stepped σ (Runs.withdraw k)) (Calls.withdraw k σ)
+  unfolding Calls.withdraw
+  withdraw-did k =
+      if-there (k .0) (channelCount σ) _ _ _ λ lk.
+      if-met (isAsking (channel σ k .phase)) _ _ λ f.
+      if-met (inReceiverLine σ k) _ _ λ there.
+      was-done (stepped _ (did-withdraw (k .0) lk (asking-is _ f) (ltb-true _ _ there))
+      (and-then (turn (k .0) resting _) (pulled σ _ (tables .receiver-below (k .0) lk) k) (turned _ k resting _ lk)) delivery-limit)
+
   pub enter-did : (p : NodeNo) → After (Stepped σ (Runs.enter p)) (Calls.enter p σ)
   unfolding Calls.enter
   enter-did p =
@@ -209,13 +218,14 @@ module _ (L : Limits) (σ : Network) (h : Started L σ) where
   call-did (Runs.addNode slots) = once-started _ _
   call-did (Runs.addChannel s r) = once-started _ _
   call-did Runs.start = once-started _ _
-  call-did (Runs.receive k) = after-some (λ e τ. by-step refl) (receive-did k)
-  call-did (Runs.send k x) = after-some (λ e τ. by-step refl) (send-did k x)
-  call-did (Runs.enter p) = after-some (λ e τ. by-step refl) (enter-did p)
-  call-did (Runs.move p) = after-some (λ e τ. by-step refl) (move-did p)
+  call-did (Runs.receive k) = after-some (λ e τ. by-step) (receive-did k)
+  call-did (Runs.send k x) = after-some (λ e τ. by-step) (send-did k x)
+  call-did (Runs.enter p) = after-some (λ e τ. by-step) (enter-did p)
+  call-did (Runs.move p) = after-some (λ e τ. by-step) (move-did p)
+  call-did (Runs.withdraw k) = after-some (λ e τ. by-step) (withdraw-did k)
   call-did (Runs.hopsLeft k) =
       if-there (k .0) (channelCount σ) _ _ _ λ l.
-      was-done (by-question (silent refl (λ j. refl) (λ j. refl)) refl)
+      was-done (by-question (unseen refl (λ j. refl) (λ j. refl)) refl)
   call-did (Runs.waitingSet p) =
       if-met (ltb (p .0) (nodeCount σ)) _ _ λ l.
-      was-done (by-question (silent refl (λ j. refl) (λ j. refl)) refl)
+      was-done (by-question (unseen refl (λ j. refl) (λ j. refl)) refl)

@@ -26,7 +26,7 @@ use Rattle.network.proofs.Ground.Counting.{count-same, sum-same, sum-no
 use Rattle.network.proofs.Ground.Tests.{eqb-reads, each-below}
 use Rattle.network.proofs.Ground.Joined.{two-read, three-read, resting-reads, absent-reads, not-reads}
 use Rattle.network.proofs.Lists.Clauses.{Facts, facts, facts-sound}
-use Rattle.network.proofs.Lists.Outcomes.{After, was-done, if-met, Silent, silent}
+use Rattle.network.proofs.Lists.Outcomes.{After, was-done, if-met, Silent, unseen}
 
 pub record IdleNode (L : Limits) (s : NodeState) : Type 0 where
   pub some-slot : 1 ≤ s .slots
@@ -190,7 +190,7 @@ module _ (L : Limits) (σ : Network) (ok : sound L σ ≡ true) (s : σ .started
       if-met (not (σ .started)) _ _ λ e.
       if-met (ltb (nodeCount σ) (L .nodes)) _ _ λ room.
       if-met (leb 1 slots && leb slots (L .slots)) _ _ λ fit.
-      was-done (built _ (silent refl (λ k. refl) (λ k. refl)) (record {
+      was-done (built _ (unseen refl (λ k. refl) (λ k. refl)) (record {
         node-limit = rw length-append (omega (arith, ltb-true));
         channel-limit = idle .channel-limit;
         none-delivered = idle .none-delivered;
@@ -215,7 +215,7 @@ module _ (L : Limits) (σ : Network) (ok : sound L σ ≡ true) (s : σ .started
       if-met (not (σ .started)) _ _ λ e.
       if-met (ltb (channelCount σ) (L .channels)) _ _ λ room.
       if-met (ltb (a .0) (nodeCount σ) && ltb (b .0) (nodeCount σ)) _ _ λ ends.
-      was-done (built _ (silent refl (λ k. refl) (λ k. refl)) (record {
+      was-done (built _ (unseen refl (λ k. refl) (λ k. refl)) (record {
         node-limit = idle .node-limit;
         channel-limit = rw length-append (omega (arith, ltb-true));
         none-delivered = idle .none-delivered;
@@ -235,7 +235,7 @@ module _ (L : Limits) (σ : Network) (ok : sound L σ ≡ true) (s : σ .started
       if-met (leb 1 (nodeCount σ) && leb 1 (channelCount σ)) _ _ λ some.
       if-met (ltb (channelCount σ) (slotCount σ)) _ _ λ more.
       was-done (record {
-        unheard = silent refl (λ k. refl) (λ k. refl);
+        unheard = unseen refl (λ k. refl) (λ k. refl);
         still-idle = idle;
         next-sound = idle-sound L _ idle (and-both _ _ some more);
       })
@@ -245,7 +245,7 @@ module _ (L : Limits) (σ : Network) (ok : sound L σ ≡ true) (s : σ .started
   not-yet r o = if-met (σ .started) r o λ e. both-ways e s
 
   pub call-before : (a : Call) → After (Prepared L a) (call L a σ)
-  unfolding Calls.receive Calls.send Calls.enter Calls.move Calls.hopsLeft Calls.waitingSet
+  unfolding Calls.receive Calls.send Calls.enter Calls.move Calls.withdraw Calls.hopsLeft Calls.waitingSet
   call-before (Runs.addNode slots) = add-node-before slots
   call-before (Runs.addChannel a b) = add-channel-before a b
   call-before Runs.start = start-before
@@ -253,7 +253,8 @@ module _ (L : Limits) (σ : Network) (ok : sound L σ ≡ true) (s : σ .started
   call-before (Runs.send k x) = not-yet _ _
   call-before (Runs.enter p) = not-yet _ _
   call-before (Runs.move p) = not-yet _ _
+  call-before (Runs.withdraw k) = not-yet _ _
   call-before (Runs.hopsLeft k) = not-yet _ _
   call-before (Runs.waitingSet p) =
       if-met (ltb (p .0) (nodeCount σ)) _ _ λ l.
-      was-done (built σ (silent refl (λ k. refl) (λ k. refl)) idle s)
+      was-done (built σ (unseen refl (λ k. refl) (λ k. refl)) idle s)

@@ -37,7 +37,7 @@ stepped-started L σ τ h d =
     }
 
 answered-started : (L : Limits) (σ τ : Network) (a : Call) (e : Event) → Started L σ → Answered σ a e τ → Started L τ
-answered-started L σ τ a e h (by-step c d) = stepped-started L σ τ h d
+answered-started L σ τ a e h (by-step d) = stepped-started L σ τ h d
 answered-started L σ τ a e h (by-question q same) = subst (Started L) (sym same) h
 
 -- a started ring stays started and sound, and every call keeps a sound ring sound

@@ -10,7 +10,7 @@ use Rattle.batch.specs.declared.Verdict.{Verdict}
 use Rattle.batch.specs.declared.Verdict.the-variants.{Good, Refused}
 use Rattle.network.specs.Network.{Network}
 use Rattle.network.specs.Calls.{Event, Outcome, refused, accepted, unless, ifGood}
-use Rattle.network.specs.Runs.{Call, counts, sentOn, handedOn, after, isAccepted}
+use Rattle.network.specs.Runs.{Call, silent, deedOf, sentOn, handedOn, after, isAccepted}
 
 -- what holds of the answer and the next ring wherever a call is accepted
 pub data After (P : Event → Network → Type 0) : Outcome Network → Type 0 where
@@ -44,12 +44,12 @@ pub go-on : (b : Bool) (r : Refusal) (o : Outcome Network) →
     b ≡ true → isAccepted o ≡ true → isAccepted (unless b (refused r) o) ≡ true
 go-on b r o met next = rw met next
 
--- a call that is not counted, takes no record in and hands none out
+-- a call that is nothing to the count, takes no record in and hands none out
 pub record Silent (a : Call) (e : Event) : Type 0 where
-  pub uncounted : counts a ≡ false
+  pub uncounted : deedOf a ≡ silent
   pub none-sent : (k : ChannelNo) → sentOn k a ≡ []
   pub none-handed : (k : ChannelNo) → handedOn k e ≡ []
 
-pub silent : {a : Call} {e : Event} →
-    counts a ≡ false → ((k : ChannelNo) → sentOn k a ≡ []) → ((k : ChannelNo) → handedOn k e ≡ []) → Silent a e
-silent c s d = record { uncounted = c; none-sent = s; none-handed = d }
+pub unseen : {a : Call} {e : Event} →
+    deedOf a ≡ silent → ((k : ChannelNo) → sentOn k a ≡ []) → ((k : ChannelNo) → handedOn k e ≡ []) → Silent a e
+unseen c s d = record { uncounted = c; none-sent = s; none-handed = d }

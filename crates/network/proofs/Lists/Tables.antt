@@ -3,7 +3,7 @@
 -- changes, and leaves `netOf` as it is. Assumes nothing.
 use Prim.Native.Nat.{ℕ, _<_}
 use mathlib.Core.Path.{_≡_, refl, sym, ap, fun-ext, subst, _∙_}
-use mathlib.Core.Bool.{Bool, false, _||_}
+use mathlib.Core.Bool.{Bool, false, _&&_, _||_}
 use mathlib.Core.List.{List, [], _∷_, _++_}
 use mathlib.Core.Option.{Option}
 use lib.ListN.{length, getD, set, length-set}
@@ -12,10 +12,12 @@ use Rattle.batch.specs.declared.BatchRecord.{BatchRecord}
 use Rattle.numbers.specs.declared.NodeNo.{NodeNo}
 use Rattle.numbers.specs.declared.ChannelNo.{ChannelNo}
 use Rattle.network.specs.Network.{Network, Phase, nodeNo, channelNo, numbersOf, nodeCount, channelCount, node, channel, withNode, withChannel, withDeliveries, noNode, noChannel}
+use Rattle.network.specs.Counting.{occupied}
+use Rattle.network.specs.Network
 use Rattle.network.specs.Calls
 use Rattle.network.proofs.Ground.Splits.{by-same}
-use Rattle.network.proofs.Ground.Numbers.{numbers-snoc, occupied-numbers}
-use Rattle.network.proofs.Theory.State.{upd, upd-same, upd-other, upd-at, Net, State, state, turn, join, pop, push, pass}
+use Rattle.network.proofs.Ground.Numbers.{numbers-snoc, numbers-without, occupied-numbers}
+use Rattle.network.proofs.Theory.State.{upd, upd-same, upd-other, upd-at, Net, State, state, turn, join, pop, push, pass, without, pull}
 
 abbrev net : ℕ → ℕ → (ℕ → ℕ) → (ℕ → ℕ) → (ℕ → ℕ) → Net
 net n c b s r = record { n = n; c = c; slots = b; sender = s; receiver = r }
@@ -129,6 +131,13 @@ module _ (σ : Network) (p : NodeNo) (l : p .0 < nodeCount σ) where
 
   pub joined : (k : ChannelNo) → Becomes σ (Calls.joinLine p k σ) (join (p .0) (k .0) (stateOf σ))
   joined k = changed _ _ _ (upd-alike (p .0) _) (longer (node σ p .line) k _) (upd-alike (p .0) _)
+
+  pub pulled : (k : ChannelNo) → Becomes σ (Calls.leaveLine p k σ) (pull (p .0) (k .0) (stateOf σ))
+  pulled k =
+      let left : List ChannelNo = Network.without k (node σ p .line) in
+      let fewer = numbers-without k (node σ p .line) in
+      changed _ _ _ (upd-alike (p .0) _) (ap (λ js. upd (p .0) js (stateOf σ .line)) fewer)
+      (ap (λ b. upd (p .0) (node σ p .mark && b) (stateOf σ .mark)) (sym (occupied-numbers left) ∙ ap occupied fewer))
 
   pub popped : (ks : List ChannelNo) → Becomes σ (Calls.leave p ks σ) (pop (p .0) (numbersOf ks) (stateOf σ))
   popped ks = changed _ _ _ refl (upd-alike (p .0) _) (upd-alike (p .0) _)

@@ -19,7 +19,7 @@ use Rattle.network.specs.Network.{Network, Phase, resting, asking, ready
 use Rattle.network.specs.Sound.{Limits, sound}
 use Rattle.network.specs.Calls.{Event, Outcome, refused, accepted, unless}
 use Rattle.network.specs.Calls
-use Rattle.network.specs.Runs.{Call, enter, move, hopsLeft, waitingSet, call, counts, after, isAccepted, handedOn, countedBy, offeredBy, deliveredBy, run, offeredOn, deliveredOn, matchedIn, matched}
+use Rattle.network.specs.Runs.{Call, enter, move, hopsLeft, waitingSet, Deed, deedOf, withdrawn, call, after, isAccepted, handedOn, deedBy, offeredBy, deliveredBy, run, deeds, counted, offeredOn, deliveredOn, matchedIn, matched}
 use Rattle.network.specs.declared.Ring.{Ring}
 use Rattle.network.specs.Layout.{ringLimits, view, hold, freshRing, soundRing, heldOutcome, callRing}
 use Rattle.network.specs.Demand.{checkedCall, RefusesUnsound, Safe, InTime, UnderWay, Demand3}
@@ -32,11 +32,12 @@ use Rattle.network.proofs.Lists.Accepted.{Answered, by-step, by-questio
 use Rattle.network.proofs.Lists.Before.{Idle, Prepared, call-before, sound-idle, idle-rests, fresh-sound}
 use Rattle.network.proofs.Lists.Bridge.{stepped-started, call-sound, enter-accepted, move-accepted}
 use Rattle.network.proofs.Theory.Measure.{Place, Ψ, placed, Ψ-some, falls}
+use Rattle.network.proofs.Theory.Count.{taken, givenBack, Course, ended, by-silence, asking-in, course-did, count-bounded}
 use Rattle.network.proofs.Theory.Stall.{no-stall}
 use Rattle.network.proofs.Theory.Order.{pending, in-order-step}
 use Rattle.network.proofs.Memory.Held.{Fits, view-hold, hold-fresh, view-fresh, sound-fits, sound-ring, sound-hold}
 use Rattle.network.proofs.Promises.Machine.{seenBy, Machine, carried-over}
-use Rattle.network.proofs.Promises.Run.{Falls, every-run, run-order}
+use Rattle.network.proofs.Promises.Run.{Stays, Falls, every-run, run-order}
 
 matched-moves : (f : Phase) (o : Option BatchRecord) (x : BatchRecord) → matchedIn f o ≡ some x → moving f ≡ true
 matched-moves resting o x e = absurd (Option·none-ne-some x e)
@@ -59,41 +60,53 @@ module _ (L : Limits) (N : Net) (m : ChannelNo) (x : BatchRecord) (lm : m .0 < N
   some-left : (σ : Network) (v : ℕ) → Under σ v → 1 ≤ v
   some-left σ v u = rw (u .value) at (Ψ-some N (m .0) (under-sound u) lm (u .place))
 
-  -- what a call does to x
-  Next : Network → ℕ → Call → Outcome Network → Type 0
-  Next σ v a o =
-      (deliveredBy m o ≡ x ∷ []) ⊎ ((deliveredBy m o ≡ []) × (w : ℕ) × Under (after σ o) w × (countedBy a o + w ≤ v))
+  -- what a call that is answered so does to x
+  Next : Network → ℕ → List Deed → Call → Outcome Network → Type 0
+  Next σ v ds a o = (deliveredBy m o ≡ x ∷ []) ⊎ Stays (λ b ρ. o) m x Under a σ v ds
 
-  next-step : {σ τ : Network} {v : ℕ} {a : Call} {e : Event} → Under σ v → counts a ≡ true → Stepped σ a e τ → Next σ v a (accepted e τ)
+  next-step : {σ τ : Network} {v : ℕ} (ds : List Deed) {a : Call} {e : Event} → Under σ v → withdrawn m (deedOf a ∷ ds) ≡ false →
+      Stepped σ a e τ → Next σ v ds a (accepted e τ)
   unfolding Next
-  next-step {σ} {τ} {v} {a} {e} u c d =
+  next-step {σ} {τ} {v} ds {a} {e} u on d =
       ⊎-elim (λ here. inl (ap (handedOn m) here ∙ rw (eq-eqb (m .0) (m .0) refl)))
       (λ r.
-      inr (
-        r .0,
-        Ψ N (m .0) (r .1 .1),
-        record {
+      inr
+      (record {
+        quiet = r .0;
+        not-withdrawn = r .1;
+        now = Ψ N (m .0) (r .2 .1);
+        under = record {
           started = stepped-started L σ τ (u .started) d;
           same-net = d .same-net ∙ u .same-net;
-          match = r .1 .0;
-          place = r .1 .1;
+          match = r .2 .0;
+          place = r .2 .1;
           value = refl;
-        },
-        rw c (omega (arith, r .1 .2, u .value)),
-      ))
-      (falls N (m .0) x (under-sound u) lm (u .match) (u .place)
+        };
+        cost = omega (arith, r .2 .2, u .value);
+      }))
+      (falls N (m .0) x (under-sound u) lm (u .match) (u .place) ds on
       (subst (λ M. Did M (stateOf σ) a e (stateOf τ)) (u .same-net) (d .did)))
 
-  next-call : {σ : Network} {v : ℕ} (a : Call) {o : Outcome Network} → Under σ v → After (Answered σ a) o → Next σ v a o
+  next-call : {σ : Network} {v : ℕ} (ds : List Deed) (a : Call) {o : Outcome Network} → Under σ v → withdrawn m (deedBy a o ∷ ds) ≡ false →
+      After (Answered σ a) o → Next σ v ds a o
   unfolding Next
-  next-call {v = v} a u not-done = inr (refl, v, u, omega arith)
-  next-call a u (was-done (by-step c d)) = next-step u c d
-  next-call {σ} {v} a u (was-done (by-question q same)) =
-      inr (q .none-handed m, v, subst (λ τ. Under τ v) (sym same) u, rw (q .uncounted) (omega arith))
+  next-call {v = v} ds a u on not-done = inr (record { quiet = refl; not-withdrawn = on; now = v; under = u; cost = omega arith })
+  next-call ds a u on (was-done (by-step d)) = next-step ds u on d
+  next-call {σ} {v} ds a u on (was-done (by-question q same)) =
+      inr
+      (record {
+        quiet = q .none-handed m;
+        not-withdrawn = rw (q .uncounted) at on;
+        now = v;
+        under = subst (λ τ. Under τ v) (sym same) u;
+        cost = rw (q .uncounted) (omega arith);
+      })
 
   under-falls : Falls (call L) m x Under
   unfolding Next
-  under-falls a σ v u = next-call a u (call-did L σ (u .started) a)
+  under-falls a σ v ds u on =
+      ⊎-elim inl (λ r. inr (record { quiet = r .quiet; not-withdrawn = r .not-withdrawn; now = r .now; under = r .under; cost = r .cost }))
+      (next-call ds a u on (call-did L σ (u .started) a))
 
   -- while x is under way an entry or a move would be accepted
   accepted-next : {σ : Network} {v : ℕ} → Under σ v →
@@ -127,18 +140,35 @@ matched-below σ m x e =
     absurd (Option·none-ne-some x (ap (λ s. matchedIn (s .phase) (s .offer)) (sym none-there) ∙ e)))
 
 module _ (L : Limits) where
+  -- which channels ask, call by call: only a receive makes one ask
+  course : (N : Net) (calls : List Call) (σ : Network) → Started L σ → netOf σ ≡ N →
+      Course (N .c) (asking-in (stateOf σ)) (deeds (call L) calls σ)
+  course N [] σ s same = ended
+  course N (a ∷ calls) σ s same = onward (course N calls) (call L a σ) (call-did L σ s a)
+    where
+      onward : ((τ : Network) → Started L τ → netOf τ ≡ N → Course (N .c) (asking-in (stateOf τ)) (deeds (call L) calls τ)) →
+          (o : Outcome Network) → After (Answered σ a) o →
+          Course (N .c) (asking-in (stateOf σ)) (deedBy a o ∷ deeds (call L) calls (after σ o))
+      onward rest _ not-done = by-silence (rest σ s same)
+      onward rest _ (was-done {e = e} {τ = τ} (by-step d)) =
+          course-did N (rest τ (stepped-started L σ τ s d) (d .same-net ∙ same))
+          (subst (λ M. Did M (stateOf σ) a e (stateOf τ)) same (d .did))
+      onward rest _ (was-done (by-question q unchanged)) = rw (q .uncounted, unchanged) (by-silence (rest σ s same))
+
   Fulfilled : Network → ChannelNo → BatchRecord → List Call → Type 0
   Fulfilled σ m x calls = InTime fresh (sound L) (λ τ. τ) (call L) σ m x calls ⊎ UnderWay fresh (sound L) (λ τ. τ) (call L) σ m calls
 
   served : (σ : Network) (m : ChannelNo) (x : BatchRecord) (calls : List Call) →
-      sound L σ ≡ true → σ .started ≡ true → matched σ m ≡ some x → Fulfilled σ m x calls
+      sound L σ ≡ true → σ .started ≡ true → matched σ m ≡ some x → withdrawn m (deeds (call L) calls σ) ≡ false → Fulfilled σ m x calls
   unfolding Fulfilled
-  served σ m x calls ok on e =
+  served σ m x calls ok on e still-on =
       let N = netOf σ in
       let s = sound-started L σ ok on in
       let lm : m .0 < channelCount σ = matched-below σ m x e in
       let at = placed N (m .0) (s .tables) lm e in
       let v : ℕ = Ψ N (m .0) (at .0) in
+      let bounded : (upTo : List Call) (begin left : ℕ) → taken (deeds (call L) upTo σ) + left ≤ begin + givenBack (deeds (call L) upTo σ) →
+      counted (call L) upTo σ + left ≤ begin + N .c = λ upTo begin left. count-bounded (N .c) begin left (course N upTo σ s refl) in
       let u : Under L N m x lm σ v = record { started = s; same-net = refl; match = e; place = at .0; value = refl } in
       ⊎-elim
       (λ r.
@@ -148,7 +178,7 @@ module _ (L : Limits) where
         rest = r .rest;
         split = r .split;
         first = r .first;
-        within = omega (arith, r .paid, at .1);
+        within = omega (arith, bounded (r .upTo) v 0 (omega (arith, r .paid)), at .1);
       }))
       (λ r.
       let next = accepted-next L N m x lm (r .still) in
@@ -156,11 +186,11 @@ module _ (L : Limits) where
       inr
       (record {
         none-yet = r .none-yet;
-        fewer = omega (arith, r .paid, at .1, left);
+        fewer = omega (arith, bounded calls v (r .left) (r .paid), at .1, left);
         at = next .0;
         next-accepted = next .1;
       }))
-      (every-run (call L) m x (Under L N m x lm) (under-falls L N m x lm) (some-left L N m x lm) calls σ v u)
+      (every-run (call L) m x (Under L N m x lm) (under-falls L N m x lm) (some-left L N m x lm) calls σ v u still-on)
 
   -- what is offered on k and not yet delivered
   abbrev pendingOn : ChannelNo → Network → List BatchRecord
@@ -178,7 +208,7 @@ module _ (L : Limits) where
   balanced-started : (k : ChannelNo) {σ : Network} (a : Call) {o : Outcome Network} → Started L σ → After (Answered σ a) o → Balanced k a σ o
   unfolding Balanced
   balanced-started k a s not-done = append-nil _
-  balanced-started k {σ} a s (was-done (by-step c d)) = in-order-step (netOf σ) (s .tables) (d .did) (k .0)
+  balanced-started k {σ} a s (was-done (by-step d)) = in-order-step (netOf σ) (s .tables) (d .did) (k .0)
   balanced-started k {σ} a s (was-done {τ = τ} (by-question q same)) = balanced-silent k σ τ q (ap (pendingOn k) same)
 
   idle-pending : (k : ChannelNo) (σ : Network) → Idle L (σ .nodes) (σ .channels) (σ .deliveries) → pendingOn k σ ≡ []

@@ -3,8 +3,8 @@
 -- that was not offered. Assumes nothing.
 use Prim.Native.Nat.{ℕ, suc, _≤_}
 use mathlib.Core.Path.{_≡_, refl, sym, ap, _∙_}
-use mathlib.Core.Logic.{_≢_, ⊎-elim}
-use mathlib.Core.Bool.{true, false≢true}
+use mathlib.Core.Logic.{_⊎_, _≢_, ⊎-elim}
+use mathlib.Core.Bool.{true, false≢true, false}
 use mathlib.Core.List.{List, [], _∷_, _++_, nil≢cons, cons≢nil}
 use mathlib.Core.Option.{some}
 use native.Mathlib.Omega.{arith}
@@ -22,10 +22,10 @@ use Rattle.network.specs.Network.{Network, fresh}
 use Rattle.network.specs.Sound.{oneMore, soundNode, soundChannel, soundBefore, soundAfter, sound}
 use Rattle.network.specs.Calls.{Event, done, delivered, hopsAre, waitingAre, Outcome, refused, accepted, arrival, holder, hopsOf}
 use Rattle.network.specs.Calls
-use Rattle.network.specs.Runs.{Call, start, enter, move, hopsLeft, after, deliveredBy, counted, deliveredOn, matched, bound}
+use Rattle.network.specs.Runs.{Call, start, enter, move, hopsLeft, after, deliveredBy, withdrawn, deeds, counted, deliveredOn, matched, bound}
 use Rattle.network.specs.Layout.{ringLimits, view, hold, holdHead, heldOutcome, callRing}
 use Rattle.network.specs.Answers.{Said, saidIn, says, outcomeNumber, outcomeOf, stepOf}
-use Rattle.network.specs.Demand.{UnderWay}
+use Rattle.network.specs.Demand.{InTime, UnderWay}
 use Rattle.network.specs.Promise.{MeetsContracts}
 use Rattle.network.specs.Edges.{n0, n1, c0, workedRecord}
 use Rattle.network.specs.Dummies.{Way, truly, actsLaterLaps, grudgesSlots, invents, movesNothing, turnsDown, alwaysSays, begun, inLine, inBuffer, firstLap, secondLap, broken, checkedRing, asCode, Exposed, Demand2Rejects, ServedBy, InOrderBy, Demand3Rejects, elevenLaps, pastTheBound, EachCanFail, SevenCounted}
@@ -108,16 +108,23 @@ module _ (way : Way) (m : ChannelNo) where
     on : σ .started ≡ true
     match : matched σ m ≡ some x
     none : deliveredOn way m calls σ ≡ []
+    kept-on : withdrawn m (deeds way calls σ) ≡ false
+
+  -- nothing delivered and nothing under way: neither case of `Served`
+  pub neither : (x : BatchRecord) (σ : Network) (calls : List Call) → deliveredOn way m calls σ ≡ [] →
+      (UnderWay fresh (sound ringLimits) (λ τ. τ) way σ m calls → ⊥) →
+      InTime fresh (sound ringLimits) (λ τ. τ) way σ m x calls ⊎ UnderWay fresh (sound ringLimits) (λ τ. τ) way σ m calls → ⊥
+  neither x σ calls none not-under-way =
+      ⊎-elim
+      (λ i.
+      let whole : deliveredOn way m (i .upTo ++ i .rest) σ ≡ [] = ap (λ l. deliveredOn way m l σ) (sym (i .split)) ∙ none in
+      cons≢nil (sym (i .first) ∙ none-before (i .upTo) (i .rest) σ whole))
+      not-under-way
 
   unserved : (x : BatchRecord) (σ : Network) (calls : List Call) → Starts x σ calls →
       (UnderWay fresh (sound ringLimits) (λ τ. τ) way σ m calls → ⊥) → ServedBy way → ⊥
   unserved x σ calls s not-under-way served =
-      ⊎-elim
-      (λ i.
-      let whole : deliveredOn way m (i .upTo ++ i .rest) σ ≡ [] = ap (λ l. deliveredOn way m l σ) (sym (i .split)) ∙ s .none in
-      cons≢nil (sym (i .first) ∙ none-before (i .upTo) (i .rest) σ whole))
-      not-under-way
-      (served σ m x calls (s .ok) (s .on) (s .match))
+      neither x σ calls (s .none) not-under-way (served σ m x calls (s .ok) (s .on) (s .match) (s .kept-on))
 
   past-bound : (x : BatchRecord) (σ : Network) (calls : List Call) → Starts x σ calls → bound σ ≤ counted way calls σ → ServedBy way → ⊥
   past-bound x σ calls s many = unserved x σ calls s (λ u. omega (arith, u .fewer, many))
@@ -132,12 +139,12 @@ unfolding begun inLine inBuffer firstLap secondLap sound soundNode soundChannel 
 demand3-rejects =
     record {
       acts-later-laps =
-          past-bound actsLaterLaps c0 workedRecord secondLap elevenLaps (record { ok = refl; on = refl; match = refl; none = refl }) (lit≤ tt);
+          past-bound actsLaterLaps c0 workedRecord secondLap elevenLaps (record { ok = refl; on = refl; match = refl; none = refl; kept-on = refl }) (lit≤ tt);
       moves-nothing =
-          past-bound movesNothing c0 workedRecord firstLap (pastTheBound (move n1)) (record { ok = refl; on = refl; match = refl; none = refl })
+          past-bound movesNothing c0 workedRecord firstLap (pastTheBound (move n1)) (record { ok = refl; on = refl; match = refl; none = refl; kept-on = refl })
           (lit≤ tt);
       turns-down = λ r.
-          unserved (turnsDown r) c0 workedRecord inLine [] (record { ok = refl; on = refl; match = refl; none = refl })
+          unserved (turnsDown r) c0 workedRecord inLine [] (record { ok = refl; on = refl; match = refl; none = refl; kept-on = refl })
           (λ u. false≢true (u .next-accepted));
       always-says = same-always;
     }
@@ -147,7 +154,7 @@ demand3-rejects =
         deliveredOn (alwaysSays e next) c0 (pastTheBound (enter n0)) inLine ≡ [] → ServedBy (alwaysSays e next) → ⊥
     no-delivery e next none =
         past-bound (alwaysSays e next) c0 workedRecord inLine (pastTheBound (enter n0))
-        (record { ok = refl; on = refl; match = refl; none = none })
+        (record { ok = refl; on = refl; match = refl; none = none; kept-on = refl })
         (lit≤ tt)
 
     same-always : (e : Event) (next : Call → Network → Network) → ServedBy (alwaysSays e next) → InOrderBy (alwaysSays e next) → ⊥

@@ -14,14 +14,15 @@ use Rattle.network.specs.Counting.{sum}
 use Rattle.network.specs.Network.{fresh}
 use Rattle.network.specs.Calls.{arrival}
 use Rattle.network.specs.Calls
-use Rattle.network.specs.Runs.{Call, addNode, start, call, run, bound}
+use Rattle.network.specs.Runs.{Call, addNode, start, call, run, counted, bound}
 use Rattle.network.specs.Layout.{ringLimits, view, freshRing, soundRing, callRing}
 use Rattle.network.specs.Answers.{outcomeNumber, says, answers}
 use Rattle.network.specs.Demand.{AsDefined}
 use Rattle.network.specs.Edges.{plan, Question, starting, hopsFrom, naming, heating, slotting, counting, Edge, ask, edges, EdgesHold, workedCalls, WorkedRunHolds, turnCalls, TurnHolds}
 use Rattle.network.proofs.Ground.Splits.{and-left, and-right}
 use Rattle.network.proofs.Memory.Held.{view-fresh}
-use Rattle.network.proofs.Promises.Demand.{ring-safe, ring-demand3}
+use Rattle.network.proofs.Promises.Machine.{counted-seen}
+use Rattle.network.proofs.Promises.Demand.{ring-machine, ring-safe, ring-demand3}
 
 -- from a fresh ring in memory, a run answers what it answers on lists, and leaves what it leaves there
 
@@ -35,16 +36,25 @@ module _ (calls : List Call) where
   fresh-answers : answers callRing calls freshRing ≡ answers (call ringLimits) calls fresh
   fresh-answers = from-fresh .same-answers ∙ ap (answers (call ringLimits) calls) view-fresh
 
-  fresh-run : view (run callRing calls freshRing) ≡ run (call ringLimits) calls fresh
+  pub fresh-run : view (run callRing calls freshRing) ≡ run (call ringLimits) calls fresh
   fresh-run = from-fresh .same-ring ∙ ap (run (call ringLimits) calls) view-fresh
 
-  -- and so does one call more
+  -- and so do further calls
+  pub answers-after : (more : List Call) →
+      answers callRing more (run callRing calls freshRing) ≡ answers (call ringLimits) more (run (call ringLimits) calls fresh)
+  answers-after more =
+      ring-demand3 .each (run callRing calls freshRing) more (from-fresh .still-sound) .same-answers
+      ∙ ap (answers (call ringLimits) more) fresh-run
+
+  pub counted-after : (more : List Call) →
+      counted callRing more (run callRing calls freshRing) ≡ counted (call ringLimits) more (run (call ringLimits) calls fresh)
+  counted-after more =
+      counted-seen ringLimits freshRing soundRing view callRing ring-machine more (run callRing calls freshRing) (from-fresh .still-sound)
+      ∙ ap (counted (call ringLimits) more) fresh-run
+
   number-after : (a : Call) →
       outcomeNumber (callRing a (run callRing calls freshRing)) ≡ outcomeNumber (call ringLimits a (run (call ringLimits) calls fresh))
-  number-after a =
-      ap (λ said. getD said 0 (says 0) .number)
-      (ring-demand3 .each (run callRing calls freshRing) (a ∷ []) (from-fresh .still-sound) .same-answers)
-      ∙ ap (λ σ. outcomeNumber (call ringLimits a σ)) fresh-run
+  number-after a = ap (λ said. getD said 0 (says 0) .number) (answers-after (a ∷ []))
 
 asked : (q : Question) → ask freshRing view callRing q ≡ onLists q
 asked (starting slots ends) = number-after (plan slots ends) start

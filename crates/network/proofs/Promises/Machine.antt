@@ -12,7 +12,7 @@ use Rattle.network.specs.Network
 use Rattle.network.specs.Sound.{Limits}
 use Rattle.network.specs.Sound
 use Rattle.network.specs.Calls.{Outcome, refused, accepted}
-use Rattle.network.specs.Runs.{Call, enter, move, call, after, isAccepted, countedBy, offeredBy, deliveredBy, run, counted, offeredOn, deliveredOn}
+use Rattle.network.specs.Runs.{Call, enter, move, call, after, isAccepted, Deed, countOf, withdrawn, deedBy, offeredBy, deliveredBy, run, deeds, counted, offeredOn, deliveredOn}
 use Rattle.network.specs.Answers.{saidIn, says, answers}
 use Rattle.network.specs.Demand.{InTime, UnderWay, Served, InOrder, AsDefined, Demand3}
 
@@ -34,9 +34,9 @@ module _ {S : Type 0} (seen : S → Network) where
   seen-said (refused r) = refl
   seen-said (accepted e t) = refl
 
-  seen-counted : (a : Call) (o : Outcome S) → countedBy a o ≡ countedBy a (seenBy seen o)
-  seen-counted a (refused r) = refl
-  seen-counted a (accepted e t) = refl
+  seen-deed : (a : Call) (o : Outcome S) → deedBy a o ≡ deedBy a (seenBy seen o)
+  seen-deed a (refused r) = refl
+  seen-deed a (accepted e t) = refl
 
   seen-offered : (k : ChannelNo) (a : Call) (o : Outcome S) → offeredBy k a o ≡ offeredBy k a (seenBy seen o)
   seen-offered k a (refused r) = refl
@@ -89,10 +89,13 @@ module _ (L : Limits) {S : Type 0} (fresh : S) (sound : S → Bool) (seen : S �
   run-stays [] s h = refl
   run-stays (a ∷ calls) s h = rw (step-unsound a s h, run-stays calls s h)
 
-  counted-seen : (calls : List Call) (s : S) → sound s ≡ true → counted step calls s ≡ counted (call L) calls (seen s)
-  counted-seen [] s h = refl
-  counted-seen (a ∷ calls) s h =
-      rw (seen-counted seen a (step a s), step-seen a s h, counted-seen calls (after s (step a s)) (step-sound a s h), seen-next a s h)
+  deeds-seen : (calls : List Call) (s : S) → sound s ≡ true → deeds step calls s ≡ deeds (call L) calls (seen s)
+  deeds-seen [] s h = refl
+  deeds-seen (a ∷ calls) s h =
+      rw (seen-deed seen a (step a s), step-seen a s h, deeds-seen calls (after s (step a s)) (step-sound a s h), seen-next a s h)
+
+  pub counted-seen : (calls : List Call) (s : S) → sound s ≡ true → counted step calls s ≡ counted (call L) calls (seen s)
+  counted-seen calls s h = ap countOf (deeds-seen calls s h)
 
   offered-seen : (k : ChannelNo) (calls : List Call) (s : S) → sound s ≡ true → offeredOn step k calls s ≡ offeredOn (call L) k calls (seen s)
   offered-seen k [] s h = refl
@@ -137,9 +140,9 @@ module _ (L : Limits) {S : Type 0} (fresh : S) (sound : S → Bool) (seen : S �
         record {
           each = as-defined;
           unsound = λ s calls h. record { all-25 = answers-25 calls s h; ring-stays = run-stays calls s h };
-          served = λ s m x calls h b e.
+          served = λ s m x calls h b e on.
               ⊎-elim (λ i. inl (in-time s m x calls h i)) (λ u. inr (under-way s m calls h u))
-              (D (seen s) m x calls (seen-sound s h) b e);
+              (D (seen s) m x calls (seen-sound s h) b e (rw (deeds-seen calls s h) at on));
           in-order = λ k calls.
               let r = O k calls in
               (r .0, rw (offered-seen k calls fresh fresh-sound, handed-seen k calls fresh fresh-sound, fresh-seen) (r .1));

@@ -1,45 +1,54 @@
--- From one call to a whole run: a number that falls with every counted call, and is at least 1 while record x is under way on channel m,
--- bounds the counted calls of every list. Beside it the order of the records delivered. Assumes nothing but its parameters, which
--- Demand gives.
+-- From one call to a whole run: a number that pays one for every receive, send, entry and move, gets one back for every withdrawal, and is
+-- at least 1 while record x is under way on channel m, pays for every list of calls that does not withdraw m. Beside it the order of the
+-- records delivered. Assumes nothing but its parameters, which Demand gives.
 use Prim.Native.Nat.{ℕ, _+_, _≤_}
 use mathlib.Core.Path.{_≡_, refl, sym, ap, _∙_}
 use mathlib.Core.Logic.{_⊎_, inl, inr, ⊎-elim}
+use mathlib.Core.Bool.{false}
 use mathlib.Core.List.{List, [], _∷_, _++_, append-assoc, append-nil}
 use native.Mathlib.Omega.{arith}
 use Rattle.batch.specs.declared.BatchRecord.{BatchRecord}
 use Rattle.numbers.specs.declared.ChannelNo.{ChannelNo}
 use Rattle.network.specs.Calls.{Outcome, refused, accepted}
-use Rattle.network.specs.Runs.{Call, counts, after, countedBy, offeredBy, deliveredBy, run, counted, offeredOn, deliveredOn}
-use Rattle.network.proofs.Ground.Counting.{one-most}
+use Rattle.network.specs.Runs.{Call, Deed, received, withdrew, stepped, silent, withdrawn, after, deedBy, offeredBy, deliveredBy, run, deeds, offeredOn, deliveredOn}
+use Rattle.network.proofs.Theory.Count.{takes, givesBack, taken, givenBack}
 
--- a counted call counts one
-pub counted-one : {S : Type 0} (a : Call) (o : Outcome S) → countedBy a o ≤ 1
-counted-one a (refused r) = omega arith
-counted-one a (accepted e t) = one-most (counts a)
+-- a call takes at most one
+takes-one : (d : Deed) → takes d ≤ 1
+takes-one (received k) = omega arith
+takes-one (withdrew k) = omega arith
+takes-one stepped = omega arith
+takes-one silent = omega arith
 
 -- Under s v: x is under way on channel m in the ring s, and the number that falls is v.
 module _ {S : Type 0} (step : Call → S → Outcome S) (m : ChannelNo) (x : BatchRecord) (Under : S → ℕ → Type 0) where
-  -- a call delivers x on m, or x stays under way and the number pays for what is counted
+  -- A call that does not withdraw m delivers x on m, or x stays under way and the number pays for what the call takes. ds: what follows.
+  pub record Stays (a : Call) (s : S) (v : ℕ) (ds : List Deed) : Type 0 where
+    pub quiet : deliveredBy m (step a s) ≡ []
+    pub not-withdrawn : withdrawn m ds ≡ false
+    pub now : ℕ
+    pub under : Under (after s (step a s)) now
+    pub cost : takes (deedBy a (step a s)) + now ≤ v + givesBack (deedBy a (step a s))
+
   abbrev pub Falls : Type 0
   Falls =
-      (a : Call) (s : S) (v : ℕ) → Under s v →
-      (deliveredBy m (step a s) ≡ x ∷ []) ⊎
-      ((deliveredBy m (step a s) ≡ []) × (w : ℕ) × Under (after s (step a s)) w × (countedBy a (step a s) + w ≤ v))
+      (a : Call) (s : S) (v : ℕ) (ds : List Deed) → Under s v → withdrawn m (deedBy a (step a s) ∷ ds) ≡ false →
+      (deliveredBy m (step a s) ≡ x ∷ []) ⊎ Stays a s v ds
 
-  -- x is delivered on m by the calls up to some place, which count no more than v
+  -- x is delivered on m by the calls up to some place, and v paid for them
   pub record Arrives (s : S) (v : ℕ) (calls : List Call) : Type 0 where
     pub upTo : List Call
     pub rest : List Call
     pub split : calls ≡ upTo ++ rest
     pub first : deliveredOn step m upTo s ≡ x ∷ []
-    pub paid : counted step upTo s ≤ v
+    pub paid : taken (deeds step upTo s) ≤ v + givenBack (deeds step upTo s)
 
-  -- nothing is delivered on m, x is under way still, and v paid for what was counted
+  -- nothing is delivered on m, x is under way still, and v paid for the calls
   pub record Travels (s : S) (v : ℕ) (calls : List Call) : Type 0 where
     pub none-yet : deliveredOn step m calls s ≡ []
     pub left : ℕ
     pub still : Under (run step calls s) left
-    pub paid : counted step calls s + left ≤ v
+    pub paid : taken (deeds step calls s) + left ≤ v + givenBack (deeds step calls s)
 
   module _ (falls : Falls) (some-left : (s : S) (v : ℕ) → Under s v → 1 ≤ v) where
     arrives-now : (a : Call) (calls : List Call) (s : S) (v : ℕ) → Under s v → deliveredBy m (step a s) ≡ x ∷ [] → Arrives s v (a ∷ calls)
@@ -49,32 +58,35 @@ module _ {S : Type 0} (step : Call → S → Outcome S) (m : ChannelNo) (x : Bat
           rest = calls;
           split = refl;
           first = rw e;
-          paid = omega (arith, counted-one a (step a s), some-left s v u);
+          paid = omega (arith, takes-one (deedBy a (step a s)), some-left s v u);
         }
 
-    module _ (a : Call) (calls : List Call) (s : S) (v w : ℕ) (quiet : deliveredBy m (step a s) ≡ [])
-        (cost : countedBy a (step a s) + w ≤ v) where
-      arrives-later : Arrives (after s (step a s)) w calls → Arrives s v (a ∷ calls)
+    module _ (a : Call) (calls : List Call) (s : S) (v : ℕ) (ds : List Deed) (stays : Stays a s v ds) where
+      open Stays stays using (quiet, now, cost)
+
+      arrives-later : Arrives (after s (step a s)) now calls → Arrives s v (a ∷ calls)
       arrives-later r =
           record {
             upTo = a ∷ r .upTo;
             rest = r .rest;
             split = ap (λ l. a ∷ l) (r .split);
             first = rw quiet (r .first);
-            paid = omega (arith, r .paid);
+            paid = omega (arith, r .paid, cost);
           }
 
-      travels-on : Travels (after s (step a s)) w calls → Travels s v (a ∷ calls)
-      travels-on r = record { none-yet = rw quiet (r .none-yet); left = r .left; still = r .still; paid = omega (arith, r .paid) }
+      travels-on : Travels (after s (step a s)) now calls → Travels s v (a ∷ calls)
+      travels-on r = record { none-yet = rw quiet (r .none-yet); left = r .left; still = r .still; paid = omega (arith, r .paid, cost) }
 
-    pub every-run : (calls : List Call) (s : S) (v : ℕ) → Under s v → Arrives s v calls ⊎ Travels s v calls
-    every-run [] s v u = inr (record { none-yet = refl; left = v; still = u; paid = omega arith })
-    every-run (a ∷ calls) s v u =
+    pub every-run : (calls : List Call) (s : S) (v : ℕ) → Under s v → withdrawn m (deeds step calls s) ≡ false →
+        Arrives s v calls ⊎ Travels s v calls
+    every-run [] s v u still-on = inr (record { none-yet = refl; left = v; still = u; paid = omega arith })
+    every-run (a ∷ calls) s v u still-on =
+        let ds : List Deed = deeds step calls (after s (step a s)) in
         ⊎-elim (λ e. inl (arrives-now a calls s v u e))
         (λ g.
-        ⊎-elim (λ r. inl (arrives-later a calls s v (g .1) (g .0) (g .3) r)) (λ r. inr (travels-on a calls s v (g .1) (g .0) (g .3) r))
-        (every-run calls (after s (step a s)) (g .1) (g .2)))
-        (falls a s v u)
+        ⊎-elim (λ r. inl (arrives-later a calls s v ds g r)) (λ r. inr (travels-on a calls s v ds g r))
+        (every-run calls (after s (step a s)) (g .now) (g .under) (g .not-withdrawn)))
+        (falls a s v ds u still-on)
 
 -- Order: what is offered on channel k and not yet delivered is pending in the ring. Kept: what holds of every ring of the run.
 module _ {S : Type 0} (step : Call → S → Outcome S) (k : ChannelNo) (Kept : S → Type 0) (pending : S → List BatchRecord)

@@ -1,10 +1,10 @@
--- Theory. Every accepted receive, send, enter and move keeps a sound started ring sound. A step is taken apart into changes of one table,
--- each of which keeps all clauses but `once` (Fit). Between them the channel at work stands nowhere (Off): then its phase may change, and
--- its message may come back at a fit place. Assumes nothing.
+-- Theory. Every accepted receive, send, enter, move and withdraw keeps a sound started ring sound. A step is taken apart into changes of one
+-- table, each of which keeps all clauses but `once` (Fit). Between them the channel at work stands nowhere (Off): then its phase may change,
+-- and its message may come back at a fit place. Assumes nothing.
 use Prim.Native.Nat.{ℕ, suc, _+_, _≤_, _<_}
 use mathlib.Core.Path.{_≡_, refl, sym, ap, _∙_}
 use mathlib.Core.Logic.{_≢_}
-use mathlib.Core.Bool.{Bool, true, false, false≢true, _||_}
+use mathlib.Core.Bool.{Bool, true, false, false≢true, _&&_, _||_}
 use mathlib.Core.List.{List, [], _∷_, _++_}
 use mathlib.Core.Option.{Option, none, some}
 use native.Mathlib.Omega.{arith}
@@ -18,11 +18,12 @@ use Rattle.network.specs.Network.{Phase, resting, asking, ready, answeri
 use Rattle.network.specs.Sound.{isReady, goodOffer, goodCarried}
 use Rattle.network.specs.Calls.{Event}
 use Rattle.network.specs.Runs.{Call}
-use Rattle.network.proofs.Ground.Splits.{by-same, by-test}
+use Rattle.network.proofs.Ground.Splits.{by-same, by-test, and-left, and-right}
 use Rattle.network.proofs.Ground.Counting.{sum-term, count-same, count-other, length-snoc, occupied-split, one-most}
+use Rattle.network.proofs.Ground.Without.{weigh-without}
 use Rattle.hops.proofs.Laws.{hops-step, next-below}
-use Rattle.network.proofs.Theory.State.{Net, State, Sound, Did, upd, upd-same, upd-other, upd-at, turn, join, pop, push, pass, here, entryIn, targetIn, ends-below, did-receive, did-offer, did-answer, did-enter, did-pass, did-ask, did-respond, did-deliver}
-use Rattle.network.proofs.Theory.Load.{withBuffer, withLine, withMark, standing, count-cons, count-snoc, count-apart, load-pop, load-join, load-pass, load-push}
+use Rattle.network.proofs.Theory.State.{Net, State, Sound, Did, upd, upd-same, upd-other, upd-at, turn, join, pop, push, pass, without, pull, here, entryIn, targetIn, ends-below, did-receive, did-offer, did-answer, did-enter, did-pass, did-ask, did-respond, did-deliver, did-withdraw}
+use Rattle.network.proofs.Theory.Load.{withBuffer, withLine, withMark, standing, count-cons, count-snoc, count-apart, load-pop, load-pull, load-join, load-pass, load-push}
 
 -- lists of channels
 
@@ -209,6 +210,26 @@ module _ (N : Net) where
         (every-snoc k xs (first-passes .0, omega (arith, nearer, first-passes .1)) (fit-pop .in-buffer q m)))
         (λ j i. omega (arith, here-pop j, load-pass N (standing j) (pop p ks σ) q m k, s .once j i))
 
+  -- a channel that stands in a line stands nowhere else, so taken out it stands nowhere
+  module _ {σ : State} (s : Sound N σ) (p k : ℕ) (l : p < n) (there : 0 < count k (σ .line p)) where
+    known : k < c
+    known = s .in-line p l k there .0
+
+    here-pull : (j : ℕ) → here N (pull p k σ) j + one (eqb k j) ≡ here N σ j
+    here-pull j = load-pull N (standing j) σ p l k there
+
+    off-pull : Off k (pull p k σ)
+    off-pull =
+        let xs : List ℕ = without k (σ .line p) in
+        let b : Bool = σ .mark p && occupied xs in
+        let cleared : Fit (withMark p b σ) = fit-mark (fit-of s) p b (λ h. s .marked p l (and-left (σ .mark p) (occupied xs) h)) in
+        record {
+          fit = fit-line cleared p xs (λ j i. s .in-line p l j (omega (arith, weigh-without k (λ x. one (eqb x j)) (σ .line p) there)))
+              (λ h. and-right (σ .mark p) (occupied xs) (rw (upd-same p b (σ .mark)) at h));
+          nowhere = omega (arith, here-pull k, s .once k known, one-most (moving (σ .phase k)), count-same k);
+          others = λ j i d. omega (arith, here-pull j, s .once j i, count-apart j k d);
+        }
+
   -- a channel that stands nowhere may take any phase
   module _ {σ₀ σ : State} (s : Sound N σ₀) {k : ℕ} (off : Off k σ) (f : Phase) (o : Option BatchRecord) (good : Good f o) where
     fit-off : Fit (turn k f o σ)
@@ -277,3 +298,5 @@ module _ (N : Net) where
   kept {σ} s (did-deliver p k ks x l e _ _) =
       let known : k < c = first-passes s p k ks l e .0 in
       put-by s (off-pop s p k ks l e) resting (σ .offer k) (good-unready refl (s .good-offer k known) refl) refl
+  kept {σ} s (did-withdraw k l _ there) =
+      put-by s (off-pull s (receiver k) k (s .receiver-below k l) there) resting (σ .offer k) (good-unready refl (s .good-offer k l) refl) refl

@@ -10,7 +10,8 @@ use native.Mathlib.Omega.{arith}
 use lib.Dec.{eqb}
 use Rattle.network.specs.Counting.{one, sum, weigh, count}
 use Rattle.network.proofs.Ground.Counting.{sum-but, weigh-cons, weigh-snoc, count-other}
-use Rattle.network.proofs.Theory.State.{Net, State, state, upd, upd-same, upd-other, join, pop, push, pass}
+use Rattle.network.proofs.Ground.Without.{weigh-without}
+use Rattle.network.proofs.Theory.State.{Net, State, state, without, upd, upd-same, upd-other, join, pop, push, pass, pull}
 
 -- the buffer of p becomes xs; or its line; or its mark becomes b. The changes of State.antt at a node are made of these
 abbrev pub withBuffer : ℕ → List ℕ → State → State
@@ -79,6 +80,9 @@ module _ (N : Net) (w : ℕ → ℕ → ℕ) (σ : State) (p : ℕ) (l : p < N .
   load-pop k ks e =
       let first : weigh (w p) (σ .buffer p) ≡ w p k + weigh (w p) ks = rw e (weigh-cons (w p) k ks) in
       omega (arith, load-buffer ks)
+
+  pub load-pull : (k : ℕ) → 0 < count k (σ .line p) → load N w (pull p k σ) + w p k ≡ load N w σ
+  load-pull k there = omega (arith, load-line (without k (σ .line p)), weigh-without k (w p) (σ .line p) there)
 
   pub load-join : (k : ℕ) → load N w (join p k σ) ≡ load N w σ + w p k
   load-join k = omega (arith, load-line (σ .line p ++ (k ∷ [])), weigh-snoc (w p) (σ .line p) k)

@@ -1,31 +1,33 @@
 -- Theory. A number that falls with every accepted receive, send, entry and move while a record is matched on channel m, until it is
--- delivered: what the others weigh on their way to m's node, the delay of m there, and the way that m has to go. When m itself goes on,
--- each other channel weighs at most 3 more, and the way that m went pays for it. Assumes nothing.
+-- delivered, and rises by one with a withdrawal on another channel: what the others weigh on their way to m's node, the delay of m there,
+-- and the way that m has to go. When m itself goes on, each other channel weighs at most 3 more, and the way that m went pays for it.
+-- Assumes nothing.
 use Prim.Native.Nat.{ℕ, suc, _+_, _*_, _≤_, _<_}
 use mathlib.Core.Path.{_≡_, refl, sym, ap, _∙_}
 use mathlib.Core.Logic.{_≢_, _⊎_, inl, inr}
-use mathlib.Core.Bool.{false, not}
+use mathlib.Core.Bool.{true, false, true≢false, cond, not}
 use mathlib.Core.List.{List, [], _∷_, _++_}
 use mathlib.Core.Option.{Option, none, some, Option·some-ne-none, Option·none-ne-some}
 use native.Mathlib.Nat.{mul-le-mul-left}
 use native.Mathlib.Omega.{arith}
 use lib.ListN.{length, length-append}
-use borrow.Author.Tests.{ne-eqb}
+use borrow.Author.Tests.{eq-eqb, ne-eqb}
 use Rattle.batch.specs.declared.BatchRecord.{BatchRecord}
 use Rattle.hops.specs.Hops.{hops, next}
 use Rattle.network.specs.Counting.{one, sum, count}
 use Rattle.network.specs.Network.{Phase, resting, asking, ready, answering, channelNo}
 use Rattle.network.specs.Sound.{absent}
 use Rattle.network.specs.Calls.{Event, delivered}
-use Rattle.network.specs.Runs.{Call, matchedIn, handedOn}
+use Rattle.network.specs.Runs.{Call, Deed, withdrew, stepped, deedOf, withdrawn, matchedIn, handedOn}
 use Rattle.network.proofs.Ground.Splits.{by-same, by-less}
 use Rattle.network.proofs.Ground.Counting.{sum-but, sum-add, sum-none, sum-term, sum-ones, sum-some, one-most}
 use Rattle.hops.proofs.Laws.{hops-from-one, hops-to-n, hops-step, next-below}
-use Rattle.network.proofs.Theory.State.{upd, upd-same, upd-other, upd-at, Net, State, turn, join, pop, push, pass, entryIn, targetIn, Sound, Did, did-receive, did-offer, did-answer, did-enter, did-pass, did-ask, did-respond, did-deliver, matchOf, matched-moving}
+use Rattle.network.proofs.Theory.State.{upd, upd-same, upd-other, upd-at, Net, State, turn, join, pop, push, pass, pull, entryIn, targetIn, Sound, Did, did-receive, did-offer, did-answer, did-enter, did-pass, did-ask, did-respond, did-deliver, did-withdraw, matchOf, matched-moving}
 use Rattle.network.proofs.Theory.Away.{away, away-here, away-below, away-next, away-first, away-on}
-use Rattle.network.proofs.Theory.Weight.{nodeWeight, weighs, channelWeight, weight, weight-turn, weight-join, weight-pop, weight-push, weight-pass, messages, quiet, all-channels, compare-all, entry-below, target-below}
+use Rattle.network.proofs.Theory.Weight.{nodeWeight, weighs, channelWeight, weight, weight-turn, weight-join, weight-pull, weight-pop, weight-push, weight-pass, messages, quiet, all-channels, compare-all, entry-below, target-below}
 use Rattle.network.proofs.Theory.Kept.{first-passes}
-use Rattle.network.proofs.Theory.Place.{Stands, buffered, waiting, stands-same, stands-turn, stands-join, stands-pass, stands-push, stands-pop, stands-once, count-split}
+use Rattle.network.proofs.Theory.Count.{takes, givesBack}
+use Rattle.network.proofs.Theory.Place.{Stands, buffered, waiting, stands-same, stands-turn, stands-join, stands-pass, stands-push, stands-pull, stands-pop, stands-once, count-split}
 
 module _ (N : Net) where
   open Net N using (n, c, slots, sender, receiver)
@@ -112,6 +114,10 @@ module _ (N : Net) where
     -- m is still matched with x, at a place where the number is less than v
     abbrev pub Nearer : BatchRecord → ℕ → State → Type 0
     Nearer x v τ = (matchOf N τ m ≡ some x) × (P : Place τ) × (suc (Ψ P) ≤ v)
+
+    -- the same after a deed: the number v pays for what it takes, and a withdrawal gives one back
+    abbrev pub Onward : BatchRecord → Deed → ℕ → State → Type 0
+    Onward x deed v τ = (matchOf N τ m ≡ some x) × (P : Place τ) × (takes deed + Ψ P ≤ v + givesBack deed)
 
     -- m itself leaves the buffer of p; the delay d that it had plays no part
     module _ (x : BatchRecord) {σ : State} (s : Sound N σ) (lm : m < c) (match : matchOf N σ m ≡ some x)
@@ -297,51 +303,85 @@ module _ (N : Net) where
           let here : Stands m σ p 0 = buffered [] ks first (omega arith) in
           stands-once m s lm la lp stands here
 
-      falls-at : {a : Call} {e : Event} {τ : State} → Did N σ a e τ →
-          (e ≡ delivered (channelNo m) x) ⊎ ((handedOn (channelNo m) e ≡ []) × Nearer x (measure σ at d) τ)
-      falls-at (did-receive k lk rests) =
-          inr (
-            refl,
-            joined (receiver k) k asking (σ .offer k) (s .receiver-below k lk) lk (other k (rw rests refl))
-                (rw rests (omega arith)),
+      -- another's request leaves its line: the ring weighs one more
+      pulled : (k : ℕ) → k < c → σ .phase k ≡ asking → 0 < count k (σ .line (receiver k)) → m ≢ k →
+          Onward x (withdrew (channelNo k)) (measure σ at d) (turn k resting (σ .offer k) (pull (receiver k) k σ))
+      unfolding Ψ
+      pulled k lk asks there dk =
+          let p : ℕ = receiver k in
+          let heavier : weighs N (toward at) k resting (σ .offer k) ≡ channelWeight N (toward at) σ k + (toward at p + 2) =
+          rw asks (omega arith) in (
+            still-matched k resting (σ .offer k) dk,
+            record { at = at; below = la; delay = d; stands = stands-turn m k resting (σ .offer k) (stands-pull m p k dk stands) },
+            rw (upd-other k resting (σ .phase) m dk) (omega (
+              arith,
+              heavier,
+              weight-pull N (toward at) σ p k (s .receiver-below k lk) there,
+              weight-turn N (toward at) (pull p k σ) k resting (σ .offer k) lk,
+            )),
           )
-      falls-at (did-offer k y lk good bare busy) = inr (refl, offered k y lk bare)
-      falls-at (did-answer k y lk good is-ready) =
+
+      -- a receive or a step pays one
+      pays : {τ : State} → Nearer x (measure σ at d) τ → Onward x stepped (measure σ at d) τ
+      pays r = (r .0, r .1, omega (arith, r .2))
+
+      -- what becomes of m: x is delivered; or nothing is handed out on m, m is not withdrawn in what follows, and it comes on
+      Goes : Deed → Event → State → List Deed → Type 0
+      Goes deed e τ ds =
+          (e ≡ delivered (channelNo m) x)
+          ⊎ ((handedOn (channelNo m) e ≡ []) × (withdrawn (channelNo m) ds ≡ false) × Onward x deed (measure σ at d) τ)
+
+      falls-at : {a : Call} {e : Event} {τ : State} (ds : List Deed) → withdrawn (channelNo m) (deedOf a ∷ ds) ≡ false → Did N σ a e τ →
+          Goes (deedOf a) e τ ds
+      unfolding Goes
+      falls-at ds still-on (did-receive k lk rests) =
+          let dk : m ≢ k = other k (rw rests refl) in
           inr (
             refl,
-            joined (sender k) k (answering y) none (s .sender-below k lk) lk (other k (rw is-ready refl))
-                (rw (is-ready, s .ready-bare k lk is-ready) (omega arith)),
+            rw (ne-eqb k m (λ e. dk (sym e))) at still-on,
+            pays (joined (receiver k) k asking (σ .offer k) (s .receiver-below k lk) lk dk (rw rests (omega arith))),
           )
-      falls-at (did-enter p k ks lp first room) = inr (refl, entered p k ks lp first)
-      falls-at (did-pass p k ks lp first further apart room clear) =
+      falls-at ds still-on (did-offer k y lk good bare busy) = inr (refl, still-on, pays (offered k y lk bare))
+      falls-at ds still-on (did-answer k y lk good is-ready) =
           inr (
             refl,
-            by-same m k
+            still-on,
+            pays (joined (sender k) k (answering y) none (s .sender-below k lk) lk (other k (rw is-ready refl))
+                (rw (is-ready, s .ready-bare k lk is-ready) (omega arith))),
+          )
+      falls-at ds still-on (did-enter p k ks lp first room) = inr (refl, still-on, pays (entered p k ks lp first))
+      falls-at ds still-on (did-pass p k ks lp first further apart room clear) =
+          inr (
+            refl,
+            still-on,
+            pays (by-same m k
                 (λ same.
                 let own : σ .buffer p ≡ k ∷ ks → next n p ≢ targetIn N (σ .phase k) k →
                 Nearer x (measure σ at d) (pass (next n p) k (pop p ks σ)) =
                 rw (← same) λ f g. rw (own-node p ks lp f) (own-passed x s lm match d p ks lp f g apart) in
                 own first further)
-                (λ dk. other-passed p k ks lp first dk clear),
+                (λ dk. other-passed p k ks lp first dk clear)),
           )
-      falls-at (did-ask p k ks lp first asks arrives bare) =
+      falls-at ds still-on (did-ask p k ks lp first asks arrives bare) =
           inr (
             refl,
-            other-turned p k ks ready none lp (first-passes N s p k ks lp first .0) first (other k (rw (asks, bare) refl))
-                (rw (asks, bare, arrives) (omega arith)),
+            still-on,
+            pays (other-turned p k ks ready none lp (first-passes N s p k ks lp first .0) first (other k (rw (asks, bare) refl))
+                (rw (asks, bare, arrives) (omega arith))),
           )
-      falls-at (did-respond p k ks y lp first asks arrives offer) =
+      falls-at ds still-on (did-respond p k ks y lp first asks arrives offer) =
           inr (
             refl,
-            by-same m k
+            still-on,
+            pays (by-same m k
                 (λ same.
                 let own : σ .buffer p ≡ k ∷ ks → σ .phase k ≡ asking → next n p ≡ sender k → σ .offer k ≡ some y →
                 Nearer x (measure σ at d) (join (sender k) k (turn k (answering y) none (pop p ks σ))) =
                 rw (← same) λ f g h i. rw (own-node p ks lp f) (own-answered x s lm match d p ks lp f y g h i) in
                 own first asks arrives offer)
-                (λ dk. other-answered p k ks y lp (first-passes N s p k ks lp first .0) first dk asks arrives offer),
+                (λ dk. other-answered p k ks y lp (first-passes N s p k ks lp first .0) first dk asks arrives offer)),
           )
-      falls-at (did-deliver p k ks y lp first answers arrives) =
+      falls-at ds still-on (did-deliver p k ks y lp first answers arrives) =
           by-same k m
           (λ same.
           let held : some y ≡ some x = rw (← same, answers) at match in
@@ -349,9 +389,14 @@ module _ (N : Net) where
           inl (rw (same, given) refl))
           (λ dk. inr (
             rw (ne-eqb k m dk) refl,
-            other-turned p k ks resting (σ .offer k) lp (first-passes N s p k ks lp first .0) first (λ e. dk (sym e))
-                (rw (answers, arrives) (omega arith)),
+            still-on,
+            pays (other-turned p k ks resting (σ .offer k) lp (first-passes N s p k ks lp first .0) first (λ e. dk (sym e))
+                (rw (answers, arrives) (omega arith))),
           ))
+      falls-at ds still-on (did-withdraw k lk asks there) =
+          by-same k m
+          (λ same. absurd (true≢false (rw (eq-eqb k m same) at still-on)))
+          (λ dk. inr (refl, rw (ne-eqb k m dk) at still-on, pulled k lk asks there (λ e. dk (sym e))))
 
     -- No more than c messages are at a node, so 2c bounds the delay there.
     stands-in : {σ : State} (p : ℕ) → Sound N σ → p < n → 1 ≤ count m (σ .buffer p) + count m (σ .line p) → Stands m σ p (2 * c)
@@ -401,8 +446,10 @@ module _ (N : Net) where
     Ψ-some {σ} s lm P =
         omega (arith, mul-le-mul-left (3 * c) (hops-from-one n (P .at) (targetIn N (σ .phase m) m) (P .below) (target-below N m s lm)))
 
-    -- Every accepted receive, send, entry and move delivers x on m, or hands out nothing on m and makes the number fall.
+    -- Every accepted call that does not withdraw m delivers x on m, or hands out nothing on m, and the number pays for it.
     pub falls : (x : BatchRecord) {σ τ : State} {a : Call} {e : Event} → Sound N σ → m < c → matchOf N σ m ≡ some x → (P : Place σ) →
-        Did N σ a e τ → (e ≡ delivered (channelNo m) x) ⊎ ((handedOn (channelNo m) e ≡ []) × Nearer x (Ψ P) τ)
-    unfolding Ψ
-    falls x s lm match P did = falls-at x s lm match (P .below) (P .stands) did
+        (ds : List Deed) → withdrawn (channelNo m) (deedOf a ∷ ds) ≡ false → Did N σ a e τ →
+        (e ≡ delivered (channelNo m) x)
+        ⊎ ((handedOn (channelNo m) e ≡ []) × (withdrawn (channelNo m) ds ≡ false) × Onward x (deedOf a) (Ψ P) τ)
+    unfolding Ψ Goes
+    falls x s lm match P ds still-on did = falls-at x s lm match (P .below) (P .stands) ds still-on did

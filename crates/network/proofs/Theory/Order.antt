@@ -11,7 +11,7 @@ use Rattle.network.specs.Network.{Phase, resting, asking, ready, answeri
 use Rattle.network.specs.Calls.{Event}
 use Rattle.network.specs.Runs.{Call, onChannel, sentOn, handedOn}
 use Rattle.network.proofs.Ground.Splits.{by-same}
-use Rattle.network.proofs.Theory.State.{Net, State, Sound, Did, did-receive, did-offer, did-answer, did-enter, did-pass, did-ask, did-respond, did-deliver, upd, upd-same, upd-other}
+use Rattle.network.proofs.Theory.State.{Net, State, Sound, Did, did-receive, did-offer, did-answer, did-enter, did-pass, did-ask, did-respond, did-deliver, did-withdraw, upd, upd-same, upd-other}
 
 abbrev pub carriedList : Phase → List BatchRecord
 carriedList resting = []
@@ -66,3 +66,5 @@ module _ (N : Net) where
   in-order-step {σ} s (did-deliver p k ks x l e r t) j =
       at-channel σ k j resting (σ .offer k) [] (onChannel (channelNo j) (channelNo k) x) (λ i. rw (on-same j k x i, r) (append-nil _))
       (λ d. (refl, on-other j k x d))
+  in-order-step {σ} s (did-withdraw k l r i) j =
+      at-channel σ k j resting (σ .offer k) [] [] (λ e. rw r (append-nil _)) (λ d. (refl, refl))

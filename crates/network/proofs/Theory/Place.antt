@@ -4,18 +4,19 @@
 use Prim.Native.Nat.{ℕ, suc, _+_, _*_, _≤_, _<_}
 use mathlib.Core.Path.{_≡_, refl, sym, ap, _∙_}
 use mathlib.Core.Logic.{_≢_}
-use mathlib.Core.Bool.{false, not}
+use mathlib.Core.Bool.{Bool, true, false, _&&_, not}
 use mathlib.Core.List.{List, [], _∷_, _++_, append-assoc}
 use mathlib.Core.Option.{Option, none}
 use native.Mathlib.Omega.{arith}
 use lib.Dec.{eqb}
 use lib.ListN.{length}
 use Rattle.batch.specs.declared.BatchRecord.{BatchRecord}
-use Rattle.network.specs.Counting.{one, sum, weigh, count}
-use Rattle.network.specs.Network.{Phase, moving}
-use Rattle.network.proofs.Ground.Splits.{by-same, by-list}
-use Rattle.network.proofs.Ground.Counting.{sum-but, sum-term, weigh-append, weigh-cons, count-same, count-other, length-snoc, occupied-split, one-most}
-use Rattle.network.proofs.Theory.State.{upd, upd-same, upd-other, Net, State, turn, join, pop, push, pass, Sound}
+use Rattle.network.specs.Counting.{one, sum, weigh, count, occupied}
+use Rattle.network.specs.Network.{Phase, asking, moving}
+use Rattle.network.proofs.Ground.Splits.{by-same, by-less, by-list}
+use Rattle.network.proofs.Ground.Counting.{sum-but, sum-term, sum-some, weigh-append, weigh-cons, count-same, count-other, length-snoc, occupied-split, one-most}
+use Rattle.network.proofs.Ground.Without.{split-without}
+use Rattle.network.proofs.Theory.State.{upd, upd-same, upd-other, Net, State, turn, join, pop, push, pass, without, pull, Sound}
 
 -- two terms of a sum
 pub sum-two : (n p q : ℕ) (f : ℕ → ℕ) → p < n → q < n → p ≢ q → f p + f q ≤ sum n f
@@ -92,6 +93,23 @@ module _ (m : ℕ) where
       (λ other. stands-same σ (push q k ks σ) (upd-other q _ (σ .buffer) at other) (upd-other q _ (σ .line) at other)
       (upd-other q _ (σ .mark) at other) (waiting xs ys e l))
 
+  -- Another leaves a line: m stands there still, with no more before it, and the mark of its line stays.
+  pub stands-pull : {σ : State} {at d : ℕ} (q k : ℕ) → m ≢ k → Stands σ at d → Stands (pull q k σ) at d
+  stands-pull q k other (buffered xs ys e l) = buffered xs ys e l
+  stands-pull {σ} {at} {d} q k other (waiting xs ys e l) =
+      by-same at q
+      (λ same.
+      let r = split-without k m xs ys other in
+      let line : without k (σ .line q) ≡ r .0 ++ (m ∷ r .1) = ap (without k) (ap (σ .line) (sym same) ∙ e) ∙ r .2 in
+      let mark : upd q (σ .mark q && occupied (without k (σ .line q))) (σ .mark) at ≡ σ .mark at =
+      rw (same, upd-same, line, occupied-split (r .0) m (r .1)) (both (σ .mark q)) in
+      waiting (r .0) (r .1) (rw (same, upd-same) line) (rw mark (omega (arith, r .3))))
+      (λ apart. stands-same σ (pull q k σ) refl (upd-other q _ (σ .line) at apart) (upd-other q _ (σ .mark) at apart) (waiting xs ys e l))
+    where
+      both : (b : Bool) → (b && true) ≡ b
+      both true = refl
+      both false = refl
+
   -- another leaves the buffer of m's node: the delay falls
   pub stands-pop : {σ : State} {at d : ℕ} (p k : ℕ) (ks : List ℕ) → at ≡ p → σ .buffer p ≡ k ∷ ks → m ≢ k → Stands σ at d →
       (less : ℕ) × Stands (pop p ks σ) at less × (suc less ≤ d)
@@ -126,3 +144,25 @@ module _ (m : ℕ) where
         stands-some there,
         stands-some here,
       )))
+
+-- The request of an asking channel stands in its receiver's line or in a buffer, and not in both.
+module _ (N : Net) {σ : State} (s : Sound N σ) (k : ℕ) (l : k < N .c) (asks : σ .phase k ≡ asking) where
+  once-there : sum (N .n) (times k σ) ≡ 1
+  once-there = rw asks at (s .once k l)
+
+  pub not-in-line : count k (σ .line (N .receiver k)) ≡ 0 → (p : ℕ) × (p < N .n) × (0 < count k (σ .buffer p))
+  not-in-line gone =
+      let found = sum-some (N .n) (times k σ) (omega (arith, once-there)) in
+      let p : ℕ = found .0 in
+      by-less 0 (count k (σ .buffer p))
+      (λ there. (p, found .1, there))
+      (λ nowhere.
+      let home : p ≡ N .receiver k = rw asks at (s .in-line p (found .1) k (omega (arith, found .2)) .1) in
+      absurd (omega (arith, found .2, ap (λ q. count k (σ .line q)) home)))
+
+  pub not-in-both : (p : ℕ) → p < N .n → 0 < count k (σ .buffer p) → count k (σ .line (N .receiver k)) ≡ 0
+  not-in-both p lp there =
+      let q : ℕ = N .receiver k in
+      by-same p q
+      (λ same. omega (arith, once-there, sum-term (N .n) p (times k σ) lp, ap (λ r. count k (σ .line r)) same))
+      (λ apart. omega (arith, once-there, sum-two (N .n) p q (times k σ) lp (s .receiver-below k l) apart))

@@ -4,7 +4,7 @@
 use Prim.Native.Nat.{ℕ, _+_, _≤_, _<_}
 use mathlib.Core.Path.{_≡_, refl}
 use mathlib.Core.Logic.{_≢_}
-use mathlib.Core.Bool.{Bool, true, false, cond, _||_}
+use mathlib.Core.Bool.{Bool, true, false, cond, _&&_, _||_}
 use mathlib.Core.List.{List, [], _∷_, _++_}
 use mathlib.Core.Option.{Option, none, some, Option·none-ne-some}
 use lib.Dec.{eqb}
@@ -14,11 +14,11 @@ use Rattle.network.proofs.Ground.Splits.{by-same}
 use Rattle.batch.specs.declared.BatchRecord.{BatchRecord}
 use Rattle.batch.specs.Good.{goodRecord}
 use Rattle.hops.specs.Hops.{hops, next}
-use Rattle.network.specs.Counting.{one, sum, count, occupied}
+use Rattle.network.specs.Counting.{one, sum, count, withoutFirst, occupied}
 use Rattle.network.specs.Network.{Phase, resting, asking, ready, answering, nodeNo, channelNo, moving, fromEnd}
 use Rattle.network.specs.Sound.{isReady, goodOffer, goodCarried}
 use Rattle.network.specs.Calls.{Event, done, delivered}
-use Rattle.network.specs.Runs.{Call, receive, send, enter, move, matchedIn}
+use Rattle.network.specs.Runs.{Call, receive, send, enter, move, withdraw, matchedIn}
 
 -- the table f with v at p; shut, so that the laws below are all that is known of it
 unfoldable pub upd {ℓ} : {A : Type ℓ} → ℕ → A → (ℕ → A) → ℕ → A
@@ -81,6 +81,17 @@ abbrev pub push : ℕ → ℕ → List ℕ → State → State
 push p k ks σ =
     state (upd p (σ .buffer p ++ (k ∷ [])) (σ .buffer)) (upd p ks (σ .line)) (upd p false (σ .mark)) (σ .phase) (σ .offer)
 
+-- a line without k; and k leaves the line of p, where the mark is cleared if nothing is left
+abbrev pub without : ℕ → List ℕ → List ℕ
+without k xs = withoutFirst (λ x. eqb x k) xs
+
+abbrev pub pull : ℕ → ℕ → State → State
+pull p k σ =
+    state (σ .buffer) (upd p (without k (σ .line p)) (σ .line))
+    (upd p (σ .mark p && occupied (without k (σ .line p))) (σ .mark))
+    (σ .phase)
+    (σ .offer)
+
 -- k passes into the buffer of q, and the mark there is set if a line waits
 abbrev pub pass : ℕ → ℕ → State → State
 pass q k σ =
@@ -122,7 +133,7 @@ module _ (N : Net) where
   pub ends-below : {σ : State} → Sound σ → (k : ℕ) → k < c → (f : Phase) → (entryIn f k < n) × (targetIn f k < n)
   ends-below s k l f = let sends = s .sender-below k l in let asks = s .receiver-below k l in (end-below f sends asks, end-below f asks sends)
 
-  -- An accepted receive, send, enter or move: the call, its answer and the next state.
+  -- An accepted receive, send, enter, move or withdraw: the call, its answer and the next state.
   pub data Did (σ : State) : Call → Event → State → Type 0 where
     did-receive : (k : ℕ) → k < c → σ .phase k ≡ resting →
         Did σ (receive (channelNo k)) done (join (receiver k) k (turn k asking (σ .offer k) σ))
@@ -148,6 +159,9 @@ module _ (N : Net) where
     did-deliver : (p k : ℕ) (ks : List ℕ) (x : BatchRecord) → p < n → σ .buffer p ≡ k ∷ ks → σ .phase k ≡ answering x →
         next n p ≡ receiver k →
         Did σ (move (nodeNo p)) (delivered (channelNo k) x) (turn k resting (σ .offer k) (pop p ks σ))
+    -- a request is taken out of its receiver's line
+    did-withdraw : (k : ℕ) → k < c → σ .phase k ≡ asking → 0 < count k (σ .line (receiver k)) →
+        Did σ (withdraw (channelNo k)) done (turn k resting (σ .offer k) (pull (receiver k) k σ))
 
   -- an entry, or a move, that would be accepted at p
   pub data CanEnter (σ : State) (p : ℕ) : Type 0 where

@@ -13,8 +13,9 @@ use Rattle.network.specs.Counting.{one, sum, count}
 use Rattle.network.specs.Network.{Phase, moving}
 use Rattle.network.specs.Sound.{absent}
 use Rattle.network.proofs.Ground.Counting.{sum-same, sum-but, sum-le, sum-add, sum-swap, sum-times, sum-ones, length-counts, length-snoc}
+use Rattle.network.proofs.Ground.Without.{length-without}
 use Rattle.network.proofs.Theory.Load.{nodes-buffer, nodes-line, nodes-both}
-use Rattle.network.proofs.Theory.State.{upd-same, upd-other, Net, State, turn, join, pop, push, pass, entryIn, targetIn, Sound, ends-below, here}
+use Rattle.network.proofs.Theory.State.{upd-same, upd-other, Net, State, turn, join, pop, push, pass, without, pull, entryIn, targetIn, Sound, ends-below, here}
 
 module _ (N : Net) where
   open Net N using (n, c, slots, sender, receiver)
@@ -40,7 +41,7 @@ module _ (N : Net) where
   abbrev pub weight : (ℕ → ℕ) → State → ℕ
   weight w σ = sum n (nodeWeight w σ) + sum c (channelWeight w σ)
 
-  -- each change that steps are made of: a channel turns, a message joins a line, leaves a buffer, enters, passes
+  -- each change that steps are made of: a channel turns, a message joins a line, leaves a line or a buffer, enters, passes
   module _ (w : ℕ → ℕ) (σ : State) where
     pub weight-turn : (k : ℕ) (f : Phase) (o : Option BatchRecord) → k < c →
         weight w (turn k f o σ) + channelWeight w σ k ≡ weight w σ + weighs w k f o
@@ -57,6 +58,11 @@ module _ (N : Net) where
     weight-join p k l =
         let longer : length (σ .line p ++ (k ∷ [])) ≡ suc (length (σ .line p)) = length-snoc (σ .line p) k in
         omega (arith, nodes-line N (atNode w) σ p l (σ .line p ++ (k ∷ [])), ap (λ z. w p * z) longer)
+
+    pub weight-pull : (p k : ℕ) → p < n → 0 < count k (σ .line p) → weight w (pull p k σ) + suc (w p) ≡ weight w σ
+    weight-pull p k l there =
+        let shorter : suc (length (without k (σ .line p))) ≡ length (σ .line p) = length-without k (σ .line p) there in
+        omega (arith, nodes-line N (atNode w) σ p l (without k (σ .line p)), shorter, ap (λ z. w p * z) shorter)
 
     pub weight-pop : (p k : ℕ) (ks : List ℕ) → p < n → σ .buffer p ≡ k ∷ ks → weight w (pop p ks σ) + w p ≡ weight w σ
     weight-pop p k ks l e = omega (arith, nodes-buffer N (atNode w) σ p l ks, ap (λ xs. w p * length xs) e)

@@ -2,9 +2,10 @@
 //! on generated tapes (standard input) and compares what it prints, byte by
 //! byte, with the model's listing. Ends with failure on a difference, when a
 //! refusal number that a tape can reach was not seen, or with too few
-//! deliveries.
+//! deliveries or withdrawals.
 
-use second_model::generate::{Random, Tapes};
+use second_model::coverage::{self, Withdrawals};
+use second_model::generate::{Random, Tapes, UNDONE_RECEIVES};
 use second_model::listing::{self, Totals, TAPE_LIMIT};
 use std::ffi::{OsStr, OsString};
 use std::io::{Read, Write};
@@ -18,6 +19,10 @@ const DEFAULT_TAPES: usize = 3_000;
 const DEFAULT_SEED: u64 = 1978;
 /// Fewer deliveries for each drawn tape would mean that the tapes test little.
 const DELIVERIES_FLOOR: u64 = 20;
+/// The same of accepted withdrawals.
+const WITHDRAWALS_FLOOR: u64 = 8;
+/// At least one of so many drawn tapes has a 27, and a 28, in the mean.
+const NOT_WITHDRAWN_EVERY: u64 = 2;
 /// Every so many tapes, and with tapes at the limit, the input arrives in pieces.
 const PIECES_EVERY: usize = 40;
 /// A program that takes longer for one tape counts as different.
@@ -30,7 +35,8 @@ struct Sums {
     too_long: u64,
     commands: u64,
     deliveries: u64,
-    refusals: [u64; 27],
+    refusals: [u64; 29],
+    withdrawals: Withdrawals,
     differences: usize,
 }
 
@@ -41,12 +47,13 @@ impl Sums {
             too_long: 0,
             commands: 0,
             deliveries: 0,
-            refusals: [0; 27],
+            refusals: [0; 29],
+            withdrawals: Withdrawals::default(),
             differences: 0,
         }
     }
 
-    fn add(&mut self, totals: &Totals) {
+    fn add(&mut self, totals: &Totals, withdrawals: &Withdrawals) {
         self.tapes += 1;
         self.too_long += totals.too_long as u64;
         self.commands += (totals.accepted + totals.refused) as u64;
@@ -54,6 +61,7 @@ impl Sums {
         for (sum, &count) in self.refusals.iter_mut().zip(&totals.refusals) {
             *sum += count as u64;
         }
+        self.withdrawals.add(withdrawals);
     }
 }
 
@@ -105,11 +113,12 @@ fn compare_all(program: &OsStr, tapes: &Tapes, count: usize) -> Sums {
 fn compare_one(program: &OsStr, index: usize, tape: &[u8], sums: &Mutex<Sums>) {
     let mut expected = Vec::new();
     let totals = listing::run(tape, &mut expected);
+    let withdrawals = coverage::withdrawals(tape);
     let at_the_limit = (TAPE_LIMIT..=TAPE_LIMIT + 1).contains(&tape.len());
     let in_pieces = at_the_limit || index % PIECES_EVERY == 1;
     let result = run_program(program, tape, in_pieces, expected.len());
     let mut sums = sums.lock().unwrap();
-    sums.add(&totals);
+    sums.add(&totals, &withdrawals);
     let difference = match result {
         Ok(printed) if printed == expected => return,
         Ok(printed) => first_difference(&expected, &printed),
@@ -234,25 +243,51 @@ fn print_sums(sums: &Sums, seed: u64) {
             println!("refusal {number}: {count}");
         }
     }
+    let Withdrawals { accepted, marks_cleared, marks_kept, freed_moves, most_undone } =
+        sums.withdrawals;
+    println!("{accepted} withdrawals: marks cleared {marks_cleared}, marks kept {marks_kept}");
+    println!("moves freed {freed_moves}; most receives undone before a delivery {most_undone}");
 }
 
-/// A tape reaches 1 to 23. 24 and 26 belong to places and lent buffers, 25 to a
-/// ring that did not come from these operations.
 fn passed(sums: &Sums, drawn: u64) -> bool {
-    let mut good = sums.differences == 0;
+    let faults = faults(sums, drawn);
+    faults.iter().for_each(|fault| println!("{fault}"));
+    faults.is_empty()
+}
+
+/// What differs, and what makes the comparison worth little. A tape reaches 1 to
+/// 23, 27 and 28; 24 and 26 belong to places and lent buffers, 25 to a ring that
+/// did not come from these operations.
+fn faults(sums: &Sums, drawn: u64) -> Vec<String> {
+    let mut faults = Vec::new();
     if sums.differences > 0 {
-        println!("{} tapes differ", sums.differences);
+        faults.push(format!("{} tapes differ", sums.differences));
     }
-    for number in 1..=23 {
+    for number in (1..=23).chain([27, 28]) {
         if sums.refusals[number] == 0 {
-            println!("refusal {number} was never seen");
-            good = false;
+            faults.push(format!("refusal {number} was never seen"));
         }
     }
-    let floor = drawn * DELIVERIES_FLOOR;
-    if sums.deliveries < floor {
-        println!("{} deliveries are fewer than {floor}", sums.deliveries);
-        good = false;
+    for (what, count, floor) in [
+        ("deliveries", sums.deliveries, drawn * DELIVERIES_FLOOR),
+        ("withdrawals", sums.withdrawals.accepted as u64, drawn * WITHDRAWALS_FLOOR),
+        ("refusals 27", sums.refusals[27], drawn / NOT_WITHDRAWN_EVERY),
+        ("refusals 28", sums.refusals[28], drawn / NOT_WITHDRAWN_EVERY),
+    ] {
+        if count < floor {
+            faults.push(format!("{count} {what} are fewer than {floor}"));
+        }
     }
-    good
+    let Withdrawals { marks_cleared, marks_kept, freed_moves, most_undone, .. } = sums.withdrawals;
+    for (missing, fault) in [
+        (marks_cleared == 0, "no withdrawal cleared a turn mark"),
+        (marks_kept == 0, "no withdrawal took the first out of a line that kept its mark"),
+        (freed_moves == 0, "no withdrawal freed a move that was 21"),
+        (most_undone < UNDONE_RECEIVES, "too few receives were undone before a delivery"),
+    ] {
+        if missing {
+            faults.push(fault.to_string());
+        }
+    }
+    faults
 }
