@@ -1,7 +1,7 @@
 -- The call "withdraw" on a channel of a sound started ring: each refusal by the tests that the code makes, and what an accepted call leaves
 -- in memory. Assumes nothing.
 use Prim.Native.Nat.{ℕ, suc, _+_, _*_, _≤_, _<_}
-use mathlib.Core.Path.{_≡_, refl, sym, ap, subst, _∙_}
+use mathlib.Core.Path.{_≡_, refl, sym, ap, _∙_}
 use mathlib.Core.Logic.{_≢_}
 use mathlib.Core.List.{List}
 use native.Mathlib.Numerals.{add-one}
@@ -19,7 +19,7 @@ use Rattle.network.specs.Sound.{isAsking}
 use Rattle.network.specs.Calls.{done, refused, accepted, unless, inReceiverLine, takeBack}
 use Rattle.network.specs.Calls
 use Rattle.network.specs.Runs
-use Rattle.network.specs.Layout.{nodeRoom, rowLength, cellRoom, cellsOf, view, heldOutcome, callRing, stepIn}
+use Rattle.network.specs.Layout.{nodeRoom, rowLength, cellsOf, view, heldOutcome, callRing, stepIn}
 use Rattle.network.proofs.Memory.Rows.{getD-padded, getD-row}
 use Rattle.network.proofs.Memory.Held.{HeldNode}
 use Rattle.updates.specs.Flat.{cutAt, waitingAt, receiverAt, phaseAt, shortenedHead, phasedHead, shortened, phased}

@@ -1,16 +1,14 @@
 -- A channel in a line, found by the cell that holds its number and one more: where it stands first, the line splits there, and without the
 -- channel it is the two parts; where no cell holds it, it is not in the line. Assumes nothing.
 use Prim.Native.Nat.{ℕ, zero, suc, _+_, _<_}
-use mathlib.Core.Path.{_≡_, refl, ap, _∙_}
+use mathlib.Core.Path.{_≡_, refl, ap}
 use mathlib.Core.Logic.{_≢_}
-use mathlib.Core.Bool.{Bool, true, false}
 use mathlib.Core.List.{List, [], _∷_, _++_}
 use native.Mathlib.Omega.{arith}
-use lib.Dec.{eqb}
 use lib.ListN.{length, getD}
 use borrow.Author.Tests.{eq-eqb, ne-eqb}
 use Rattle.numbers.specs.declared.ChannelNo.{ChannelNo}
-use Rattle.network.specs.Counting.{one, weigh}
+use Rattle.network.specs.Counting.{weigh}
 use Rattle.network.specs.Network.{channelNo, timesIn, without}
 use Rattle.network.specs.Layout.{cellsOf}
 use Rattle.network.proofs.Ground.Splits.{by-same}

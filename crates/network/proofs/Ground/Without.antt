@@ -14,45 +14,45 @@ use Rattle.network.proofs.Ground.Counting.{weigh-cons, count-other}
 
 module _ (k : ℕ) where
   -- the list without k
-  abbrev less : List ℕ → List ℕ
-  less xs = withoutFirst (λ x. eqb x k) xs
+  abbrev pub without : List ℕ → List ℕ
+  without xs = withoutFirst (λ x. eqb x k) xs
 
-  less-first : (xs : List ℕ) → less (k ∷ xs) ≡ xs
-  less-first xs = rw (eq-eqb k k refl)
+  first-out : (xs : List ℕ) → without (k ∷ xs) ≡ xs
+  first-out xs = rw (eq-eqb k k refl)
 
-  less-later : (x : ℕ) (xs : List ℕ) → x ≢ k → less (x ∷ xs) ≡ x ∷ less xs
-  less-later x xs d = rw (ne-eqb x k d)
+  later-out : (x : ℕ) (xs : List ℕ) → x ≢ k → without (x ∷ xs) ≡ x ∷ without xs
+  later-out x xs d = rw (ne-eqb x k d)
 
   -- k stands further on, if it is not the first
   in-rest : (x : ℕ) (xs : List ℕ) → x ≢ k → 0 < count k (x ∷ xs) → 0 < count k xs
   unfolding weigh
   in-rest x xs d l = omega (arith, count-other x k d)
 
-  pub weigh-without : (f : ℕ → ℕ) (xs : List ℕ) → 0 < count k xs → weigh f (less xs) + f k ≡ weigh f xs
+  pub weigh-without : (f : ℕ → ℕ) (xs : List ℕ) → 0 < count k xs → weigh f (without xs) + f k ≡ weigh f xs
   unfolding weigh
   weigh-without f [] l = absurd (omega arith)
   weigh-without f (x ∷ xs) l =
       by-same x k
-      (λ e. rw (e, less-first xs) (omega arith))
+      (λ e. rw (e, first-out xs) (omega arith))
       (λ d.
-      let rest : weigh f (less xs) + f k ≡ weigh f xs = weigh-without f xs (in-rest x xs d l) in
-      rw (less-later x xs d) (omega (arith, rest, weigh-cons f x (less xs))))
+      let rest : weigh f (without xs) + f k ≡ weigh f xs = weigh-without f xs (in-rest x xs d l) in
+      rw (later-out x xs d) (omega (arith, rest, weigh-cons f x (without xs))))
 
-  pub length-without : (xs : List ℕ) → 0 < count k xs → suc (length (less xs)) ≡ length xs
+  pub length-without : (xs : List ℕ) → 0 < count k xs → suc (length (without xs)) ≡ length xs
   unfolding weigh
   length-without [] l = absurd (omega arith)
   length-without (x ∷ xs) l =
       by-same x k
-      (λ e. rw (e, less-first xs) refl)
-      (λ d. rw (less-later x xs d) (ap suc (length-without xs (in-rest x xs d l))))
+      (λ e. rw (e, first-out xs) refl)
+      (λ d. rw (later-out x xs d) (ap suc (length-without xs (in-rest x xs d l))))
 
   -- another that stands in the list stands there still, with no more before it
   pub split-without : (m : ℕ) (xs ys : List ℕ) → m ≢ k →
-      (zs : List ℕ) × (us : List ℕ) × (less (xs ++ (m ∷ ys)) ≡ zs ++ (m ∷ us)) × (length zs ≤ length xs)
-  split-without m [] ys d = ([], less ys, less-later m ys d, omega arith)
+      (zs : List ℕ) × (us : List ℕ) × (without (xs ++ (m ∷ ys)) ≡ zs ++ (m ∷ us)) × (length zs ≤ length xs)
+  split-without m [] ys d = ([], without ys, later-out m ys d, omega arith)
   split-without m (x ∷ xs) ys d =
       by-same x k
-      (λ e. (xs, ys, rw (e, less-first (xs ++ (m ∷ ys))) refl, omega arith))
+      (λ e. (xs, ys, rw (e, first-out (xs ++ (m ∷ ys))) refl, omega arith))
       (λ f.
       let r = split-without m xs ys d in
-      (x ∷ r .0, r .1, less-later x (xs ++ (m ∷ ys)) f ∙ ap (λ l. x ∷ l) (r .2), omega (arith, r .3)))
+      (x ∷ r .0, r .1, later-out x (xs ++ (m ∷ ys)) f ∙ ap (λ l. x ∷ l) (r .2), omega (arith, r .3)))

@@ -21,7 +21,7 @@ use Rattle.hops.proofs.Laws
 use Rattle.network.specs.Counting.{one, sum, count}
 use Rattle.network.specs.Network.{Network, Phase, resting, asking, ready, answering, numbersOf, nodeCount, channelCount, node, channel, nextNode, moving, withChannel}
 use Rattle.network.specs.Sound.{Limits, lastCount, oneMore, isResting, isAsking, isReady, absent}
-use Rattle.network.specs.Calls.{Event, done, delivered, Outcome, refused, unless, Arrival, taken, passing, arrived, arrival, joinLine, inReceiverLine, takeBack, respond, takeRequest, deliver, leave, hasSlot, handOver}
+use Rattle.network.specs.Calls.{Event, done, delivered, Outcome, refused, unless, Arrival, taken, passing, arrived, arrival, joinLine, inReceiverLine, respond, takeRequest, deliver, leave, hasSlot, handOver}
 use Rattle.network.specs.Calls
 use Rattle.network.specs.Runs.{Call, call}
 use Rattle.network.specs.Runs

@@ -12,7 +12,7 @@ use Rattle.network.specs.Network
 use Rattle.network.specs.Sound.{Limits}
 use Rattle.network.specs.Sound
 use Rattle.network.specs.Calls.{Outcome, refused, accepted}
-use Rattle.network.specs.Runs.{Call, enter, move, call, after, isAccepted, Deed, countOf, withdrawn, deedBy, offeredBy, deliveredBy, run, deeds, counted, offeredOn, deliveredOn}
+use Rattle.network.specs.Runs.{Call, enter, move, call, after, isAccepted, countOf, deedBy, offeredBy, deliveredBy, run, deeds, counted, offeredOn, deliveredOn}
 use Rattle.network.specs.Answers.{saidIn, says, answers}
 use Rattle.network.specs.Demand.{InTime, UnderWay, Served, InOrder, AsDefined, Demand3}
 

@@ -9,7 +9,7 @@ use mathlib.Core.List.{List, [], _∷_, _++_, append-assoc, append-nil}
 use native.Mathlib.Omega.{arith}
 use Rattle.batch.specs.declared.BatchRecord.{BatchRecord}
 use Rattle.numbers.specs.declared.ChannelNo.{ChannelNo}
-use Rattle.network.specs.Calls.{Outcome, refused, accepted}
+use Rattle.network.specs.Calls.{Outcome}
 use Rattle.network.specs.Runs.{Call, Deed, received, withdrew, stepped, silent, withdrawn, after, deedBy, offeredBy, deliveredBy, run, deeds, offeredOn, deliveredOn}
 use Rattle.network.proofs.Theory.Count.{takes, givesBack, taken, givenBack}
 
@@ -22,7 +22,7 @@ takes-one silent = omega arith
 
 -- Under s v: x is under way on channel m in the ring s, and the number that falls is v.
 module _ {S : Type 0} (step : Call → S → Outcome S) (m : ChannelNo) (x : BatchRecord) (Under : S → ℕ → Type 0) where
-  -- A call that does not withdraw m delivers x on m, or x stays under way and the number pays for what the call takes. ds: what follows.
+  -- x stays under way on m, which is not withdrawn in what follows, ds, and the number pays for what the call takes
   pub record Stays (a : Call) (s : S) (v : ℕ) (ds : List Deed) : Type 0 where
     pub quiet : deliveredBy m (step a s) ≡ []
     pub not-withdrawn : withdrawn m ds ≡ false
@@ -30,6 +30,7 @@ module _ {S : Type 0} (step : Call → S → Outcome S) (m : ChannelNo) (x : Bat
     pub under : Under (after s (step a s)) now
     pub cost : takes (deedBy a (step a s)) + now ≤ v + givesBack (deedBy a (step a s))
 
+  -- a call that does not withdraw m delivers x on m, or x stays under way
   abbrev pub Falls : Type 0
   Falls =
       (a : Call) (s : S) (v : ℕ) (ds : List Deed) → Under s v → withdrawn m (deedBy a (step a s) ∷ ds) ≡ false →

@@ -6,10 +6,8 @@ use mathlib.Core.Path.{_≡_, refl, sym}
 use mathlib.Core.Logic.{_≢_}
 use mathlib.Core.Bool.{Bool, true, false, _&&_, not}
 use mathlib.Core.List.{List, [], _∷_}
-use mathlib.Core.Option.{Option}
 use native.Mathlib.Omega.{arith}
 use borrow.Author.Tests.{eq-eqb, ne-eqb}
-use Rattle.batch.specs.declared.BatchRecord.{BatchRecord}
 use Rattle.numbers.specs.declared.ChannelNo.{ChannelNo}
 use Rattle.network.specs.Counting.{one, sum}
 use Rattle.network.specs.Network.{Phase, resting, asking, ready, answering, channelNo}
@@ -18,7 +16,7 @@ use Rattle.network.specs.Calls.{Event}
 use Rattle.network.specs.Runs.{Call, Deed, received, withdrew, stepped, silent, deedOf, withdrawn, countOf}
 use Rattle.network.proofs.Ground.Splits.{both-ways}
 use Rattle.network.proofs.Ground.Counting.{sum-but, sum-le, sum-ones, one-most}
-use Rattle.network.proofs.Theory.State.{upd, upd-same, upd-other, upd-at, Net, State, turn, Did, did-receive, did-offer, did-answer, did-enter, did-pass, did-ask, did-respond, did-deliver, did-withdraw}
+use Rattle.network.proofs.Theory.State.{upd, upd-same, upd-other, upd-at, Net, State, Did, did-receive, did-offer, did-answer, did-enter, did-pass, did-ask, did-respond, did-deliver, did-withdraw}
 
 -- what a deed takes: a receive or a step, one; and what it gives back: a withdrawal, one
 abbrev pub takes : Deed → ℕ

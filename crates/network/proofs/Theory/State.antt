@@ -11,10 +11,11 @@ use lib.Dec.{eqb}
 use lib.ListN.{length}
 use borrow.Author.Tests.{eq-eqb, ne-eqb}
 use Rattle.network.proofs.Ground.Splits.{by-same}
+pub use Rattle.network.proofs.Ground.Without.{without}
 use Rattle.batch.specs.declared.BatchRecord.{BatchRecord}
 use Rattle.batch.specs.Good.{goodRecord}
 use Rattle.hops.specs.Hops.{hops, next}
-use Rattle.network.specs.Counting.{one, sum, count, withoutFirst, occupied}
+use Rattle.network.specs.Counting.{one, sum, count, occupied}
 use Rattle.network.specs.Network.{Phase, resting, asking, ready, answering, nodeNo, channelNo, moving, fromEnd}
 use Rattle.network.specs.Sound.{isReady, goodOffer, goodCarried}
 use Rattle.network.specs.Calls.{Event, done, delivered}
@@ -81,10 +82,7 @@ abbrev pub push : ℕ → ℕ → List ℕ → State → State
 push p k ks σ =
     state (upd p (σ .buffer p ++ (k ∷ [])) (σ .buffer)) (upd p ks (σ .line)) (upd p false (σ .mark)) (σ .phase) (σ .offer)
 
--- a line without k; and k leaves the line of p, where the mark is cleared if nothing is left
-abbrev pub without : ℕ → List ℕ → List ℕ
-without k xs = withoutFirst (λ x. eqb x k) xs
-
+-- k leaves the line of p, where the mark is cleared if nothing is left
 abbrev pub pull : ℕ → ℕ → State → State
 pull p k σ =
     state (σ .buffer) (upd p (without k (σ .line p)) (σ .line))

@@ -1,7 +1,6 @@
 -- `updates::leave_line` meets its contract: the row is cut, the count is one less, and the mark is what `mark_left` says. Assumes nothing.
 use mathlib.Core.Path.{refl}
 use borrow.Author.Needs.{needs}
-use native.Mathlib.Omega.{arith}
 use Rattle.updates.proofs.leave_line.Statement.{statement}
 use Rattle.updates.proofs.leave_line.Tie as tie
 
