@@ -14,17 +14,26 @@
        struct vessel_delivery d = vessel_ring_move(&ring, 0);
        vessel_ring_withdraw(&ring, 0);                   a task that gives up, while its request still waits to enter
 
+   Beside it, where the temperatures of the batches are wanted, keep a table of rows, which begins as zeros, and lend it to its own calls:
+
+       static struct vessel_row table[VESSEL_HISTORY_ROWS];
+       vessel_history_note(table, VESSEL_HISTORY_ROWS, d.record);                        what was delivered, say
+       struct vessel_figures f = vessel_history_figures(table, VESSEL_HISTORY_ROWS, 7);  of batch 7
+       vessel_history_close(table, VESSEL_HISTORY_ROWS, 7);                              its row is free for another batch
+
    Every call answers 0, VESSEL_DONE, or the number of the first refusal that applies, by itself or as `refusal` of a struct. A refusal
-   leaves the ring and every buffer as they were, to the byte. Do not write to the ring yourself; a ring whose bytes are not those of a
-   ring that the calls can reach, for whatever reason, is refused by every call with VESSEL_UNSOUND_RING.
+   leaves the ring, the table and every buffer as they were, to the byte. Do not write to ring or table yourself; one whose bytes are not
+   those of a ring or table that the calls can reach, for whatever reason, is refused by every call on it with VESSEL_UNSOUND_RING.
 
    What the caller owes, and nothing checks:
    - `ring` points to a whole struct vessel_ring that nothing else reads or writes during the call: the calls know no locks;
+   - `table` points to `rows` rows, likewise; that they are 128 is checked;
    - `bytes` points to `length` bytes, and `tape` and `out` do not overlap;
    - the stack has VESSEL_STACK bytes: the call copies the ring;
    - memcpy and memset of the C library are there. Nothing is allocated, and nothing is kept between calls.
 
-   A ring has no padding: it may be copied, compared and stored as memory. Its numbers of 32 bits have the machine's byte order. */
+   A ring and a row have no padding: they may be copied, compared and stored as memory. Their numbers of 16 and 32 bits have the machine's
+   byte order. */
 #ifndef VESSEL_RING_H
 #define VESSEL_RING_H
 
@@ -40,9 +49,11 @@ extern "C" {
 #define VESSEL_CHANNELS 64
 #define VESSEL_SLOTS 64 /* of a node; also the cells of a node's row */
 #define VESSEL_NAME 32
-#define VESSEL_RECORD_BYTES 40 /* of a record as bytes, on a tape and in the ring */
-#define VESSEL_LINE_ROOM 160   /* room for any line of a listing */
-#define VESSEL_STACK 32768    /* 23,736 bytes were measured, in a move */
+#define VESSEL_RECORD_BYTES 40  /* of a record as bytes, on a tape and in the ring */
+#define VESSEL_HISTORY_ROWS 128 /* of a history, no more and no fewer */
+#define VESSEL_READINGS 24      /* of a row of it */
+#define VESSEL_LINE_ROOM 160    /* room for any line of a listing */
+#define VESSEL_STACK 32768      /* 23,736 bytes were measured, in a move */
 
 /* The refusals. Document 01 has the order in which each call tests them; docs/REFUSALS.md has it as a table. */
 enum vessel_refusal {
@@ -71,10 +82,11 @@ enum vessel_refusal {
     VESSEL_UNKNOWN_COMMAND = 22,
     VESSEL_COMMAND_CUT = 23,             /* fewer bytes are left than the command is wide */
     VESSEL_PLACE_BEYOND_END = 24,
-    VESSEL_UNSOUND_RING = 25,            /* these bytes are not a ring */
+    VESSEL_UNSOUND_RING = 25,            /* these bytes are not a ring; or these rows are not a table */
     VESSEL_NO_ROOM_TO_WRITE = 26,        /* fewer bytes from the place on than the command is wide */
     VESSEL_NOT_ASKING = 27,              /* no request to withdraw: the channel rests, or its request has arrived */
-    VESSEL_REQUEST_IN_BUFFER = 28        /* the request has left its line: too late to withdraw it */
+    VESSEL_REQUEST_IN_BUFFER = 28,       /* the request has left its line: too late to withdraw it */
+    VESSEL_NO_EMPTY_ROW = 29             /* the batch has no row and all 128 are in use: close a batch first */
 };
 
 /* What is under way on a channel. */
@@ -132,6 +144,23 @@ struct vessel_waiting {
     uint64_t set;   /* bit k is channel k; 0 where refused */
     uint32_t tasks; /* how many bits of it are 1 */
     uint8_t refusal;
+};
+
+/* A row of the history: the last readings of one batch. An empty row is all zero, and so is a table to begin with. No two rows are of one
+   batch, and batch number 0 has none. Read it as you like, change it by the calls alone. */
+struct vessel_row {
+    uint32_t batch;                    /* 0 in an empty row */
+    uint32_t count;                    /* how many readings stand here, 1 to 24; 0 in an empty row */
+    int16_t readings[VESSEL_READINGS]; /* temperatures as in a record, oldest first, then zeros */
+};
+
+/* The figures of a batch: of the readings in its row. Where it has no row, and where refused, `held` and the three are 0. */
+struct vessel_figures {
+    int32_t sum;
+    int16_t lowest;
+    int16_t highest;
+    uint8_t refusal;
+    uint8_t held; /* 1 where the batch has a row, else 0 */
 };
 
 /* A command of the tape. `code` is its command byte: 0x10 add node (first: slots), 0x11 add channel (first: sender, second: receiver),
@@ -211,6 +240,19 @@ struct vessel_waiting vessel_ring_waiting_set(const struct vessel_ring *ring, ui
 /* 1 where the ring is sound, else 0: then every call answers 25. For a ring that comes from a store or over a wire. */
 uint8_t vessel_ring_is_sound(const struct vessel_ring *ring);
 
+/* ---- the history: a table of `rows` rows, apart from any ring. 25 is a table that has not exactly 128 rows, has a row that is not as
+   said above, or has two rows of one batch. */
+
+/* Notes a record's temperature in the row of its batch, else in the lowest empty row; the oldest of 24 readings makes way. Refusals: 25,
+   11, 12, 13, 14, 29. */
+uint8_t vessel_history_note(struct vessel_row *table, size_t rows, struct vessel_record record);
+
+/* Closes a batch: its whole row becomes zero, an empty row. Where it has no row nothing changes. Refusals: 25. */
+uint8_t vessel_history_close(struct vessel_row *table, size_t rows, uint32_t batch);
+
+/* The lowest, the highest and the sum of the readings in the row of a batch. Refusals: 25. */
+struct vessel_figures vessel_history_figures(const struct vessel_row *table, size_t rows, uint32_t batch);
+
 /* ---- commands of a tape */
 
 /* Reads the command at a place of a tape of so many bytes. Refusals: 24, 22, 23. */
@@ -272,6 +314,18 @@ VESSEL_HOLDS(sizeof(struct vessel_waiting) == 16);
 VESSEL_AT(vessel_waiting, set, 0);
 VESSEL_AT(vessel_waiting, tasks, 8);
 VESSEL_AT(vessel_waiting, refusal, 12);
+
+VESSEL_HOLDS(sizeof(struct vessel_row) == 56);
+VESSEL_AT(vessel_row, batch, 0);
+VESSEL_AT(vessel_row, count, 4);
+VESSEL_AT(vessel_row, readings, 8);
+
+VESSEL_HOLDS(sizeof(struct vessel_figures) == 12);
+VESSEL_AT(vessel_figures, sum, 0);
+VESSEL_AT(vessel_figures, lowest, 4);
+VESSEL_AT(vessel_figures, highest, 6);
+VESSEL_AT(vessel_figures, refusal, 8);
+VESSEL_AT(vessel_figures, held, 9);
 
 VESSEL_HOLDS(sizeof(struct vessel_command) == 44);
 VESSEL_AT(vessel_command, code, 0);

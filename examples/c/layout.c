@@ -124,9 +124,41 @@ static void command_fields(void)
     HOLDS(vessel_tape_write(tape, sizeof tape, 0, command).refusal == VESSEL_UNKNOWN_COMMAND);
 }
 
+static void row_fields(void)
+{
+    static struct vessel_row table[VESSEL_HISTORY_ROWS], empty;
+    struct vessel_record record = record_of(0xFEDCBA98u);
+    struct vessel_figures f;
+    int i;
+    for (i = 0; i < VESSEL_READINGS; i++) {
+        record.temperature = (int16_t)(i - 400);
+        HOLDS(vessel_history_note(table, VESSEL_HISTORY_ROWS, record) == VESSEL_DONE && table[0].batch == 0xFEDCBA98u);
+        HOLDS(table[0].count == (uint32_t)i + 1 && table[0].readings[i] == i - 400);
+    }
+    f = vessel_history_figures(table, VESSEL_HISTORY_ROWS, 0xFEDCBA98u);
+    HOLDS(f.refusal == 0 && f.held == 1 && f.lowest == -400 && f.highest == -377 && f.sum == -9324);
+    for (i = 1; i < VESSEL_HISTORY_ROWS; i++) {
+        record.batch = 0x01020304u + (uint32_t)i;
+        record.temperature = (int16_t)(1000 + i);
+        HOLDS(vessel_history_note(table, VESSEL_HISTORY_ROWS, record) == VESSEL_DONE && table[i].batch == 0x01020304u + (uint32_t)i);
+        HOLDS(table[i].count == 1 && table[i].readings[0] == 1000 + i && table[i].readings[1] == 0);
+    }
+    f = vessel_history_figures(table, VESSEL_HISTORY_ROWS, 0x01020304u + 127);
+    HOLDS(f.refusal == 0 && f.held == 1 && f.lowest == 1127 && f.highest == 1127 && f.sum == 1127);
+    record.batch = 7;
+    HOLDS(vessel_history_note(table, VESSEL_HISTORY_ROWS, record) == VESSEL_NO_EMPTY_ROW);
+    HOLDS(vessel_history_close(table, VESSEL_HISTORY_ROWS, 0xFEDCBA98u) == VESSEL_DONE);
+    HOLDS(memcmp(&table[0], &empty, sizeof empty) == 0 && table[1].count == 1);
+    f = vessel_history_figures(table, VESSEL_HISTORY_ROWS, 0xFEDCBA98u);
+    HOLDS(f.refusal == 0 && f.held == 0 && f.lowest == 0 && f.highest == 0 && f.sum == 0);
+    f = vessel_history_figures(table, VESSEL_HISTORY_ROWS - 1, 0xFEDCBA98u);
+    HOLDS(f.refusal == VESSEL_UNSOUND_RING && f.held == 0);
+}
+
 int main(void)
 {
     ring_fields();
     command_fields();
+    row_fields();
     return wrong != 0;
 }

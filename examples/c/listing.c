@@ -1,11 +1,12 @@
-/* The two-node ring of document 01, call by call: the plan, one record from node 1 to node 0, and what a refusal and a damaged ring look
-   like. Prints a line for each call, as the tape program does for each command. */
+/* The two-node ring of document 01, call by call: the plan, one record from node 1 to node 0, its temperature noted, and what a refusal, a
+   damaged ring and a damaged history look like. Prints a line for each call, as the tape program does for each command. */
 #include "vessel_ring.h"
 
 #include <stdio.h>
 #include <string.h>
 
 static struct vessel_ring ring;
+static struct vessel_row history[VESSEL_HISTORY_ROWS]; /* zeros: the empty one */
 static unsigned calls, accepted, refused;
 
 /* The line of a call: its number, its command byte, the refusal or 0. */
@@ -25,6 +26,14 @@ static void plain(unsigned code, uint8_t refusal)
     printf("\n");
 }
 
+/* Notes a record in the history and says what is known of its batch then. */
+static void note(struct vessel_record record)
+{
+    uint8_t refusal = vessel_history_note(history, VESSEL_HISTORY_ROWS, record);
+    struct vessel_figures figures = vessel_history_figures(history, VESSEL_HISTORY_ROWS, record.batch);
+    printf("  noted %u: batch %u lowest %d highest %d sum %d\n", refusal, record.batch, figures.lowest, figures.highest, figures.sum);
+}
+
 static void moved(struct vessel_delivery answer)
 {
     const struct vessel_record *record = &answer.record;
@@ -35,6 +44,8 @@ static void moved(struct vessel_delivery answer)
             printf(" %.*s", record->name_length, (const char *)record->name);
     }
     printf("\n");
+    if (answer.delivered)
+        note(*record);
 }
 
 /* A task that asks for a record while its last request is still under way is refused, and asks again later. */
@@ -70,6 +81,22 @@ static void damaged(void)
     printf(" %u", vessel_ring_hops_left(&copy, 0).refusal);
     printf(" %u", vessel_ring_waiting_set(&copy, 0).refusal);
     printf(", the ring %s\n", memcmp(&copy, &before, sizeof copy) == 0 ? "as it was" : "CHANGED");
+}
+
+/* A reading in a row of no batch: every call refuses the table and leaves it as it is. */
+static void damaged_history(void)
+{
+    static struct vessel_row copy[VESSEL_HISTORY_ROWS], before[VESSEL_HISTORY_ROWS];
+    struct vessel_record none;
+    memset(&none, 0, sizeof none);
+    memcpy(copy, history, sizeof copy);
+    copy[90].readings[0] = 5;
+    memcpy(before, copy, sizeof before);
+    printf("a reading of no batch: calls");
+    printf(" %u", vessel_history_note(copy, VESSEL_HISTORY_ROWS, none));
+    printf(" %u", vessel_history_close(copy, VESSEL_HISTORY_ROWS, 7));
+    printf(" %u", vessel_history_figures(copy, VESSEL_HISTORY_ROWS, 7).refusal);
+    printf(", the history %s\n", memcmp(copy, before, sizeof copy) == 0 ? "as it was" : "CHANGED");
 }
 
 /* The same calls as a tape: written, read back and run. */
@@ -124,6 +151,7 @@ int main(void)
     moved(vessel_ring_move(&ring, 1));
     printf("end %u %u\n", accepted, refused);
     damaged();
+    damaged_history();
     taped();
     return 0;
 }

@@ -14,7 +14,7 @@ use Rattle.refusal.proofs.Number.{in-range}
 use Rattle.batch.specs.declared.BatchRecord.{BatchRecord}
 use Rattle.batch.specs.declared.Verdict.{Verdict}
 use Rattle.batch.specs.declared.Verdict.the-variants.{Good, Refused}
-use Rattle.batch.specs.Good.{coldest, hottest, nameLimit, batchGood, tempGood, nameLengthGood, nameGood, widthsGood}
+use Rattle.batch.specs.Good.{inRange, nameLimit, batchGood, tempGood, nameLengthGood, nameGood, widthsGood}
 use Rattle.batch.specs.Good.{goodRecord, verdictOf, verdictNumber, GoodExactly, GoodIsZero, GoodNumber}
 
 -- by cases on a test, each with the test's outcome in hand
@@ -27,7 +27,7 @@ leb-not-ltb : (a b : ℕ) → leb a b ≡ not (ltb b a)
 leb-not-ltb a b =
     by-test (ltb b a) (λ e. rw (e, lt-leb a b (ltb-true b a e))) (λ e. rw (e, le-leb a b (ltb-false b a e)))
 
-leZ-not-ltZ : (a b : ℤ) → leZ a b ≡ not (ltZ b a)
+pub leZ-not-ltZ : (a b : ℤ) → leZ a b ≡ not (ltZ b a)
 leZ-not-ltZ (pos a) (pos b) = leb-not-ltb a b
 leZ-not-ltZ (pos a) (negsuc b) = refl
 leZ-not-ltZ (negsuc a) (pos b) = refl
@@ -56,10 +56,9 @@ module _ (r : BatchRecord) where
   unfolding batchGood
   batch-not-zero ne = rw (ne-eqb (r .batch .0) 0 ne)
 
-  pub temp-by-tests : {cold hot : Bool} → ltZ (r .temperature) coldest ≡ cold → ltZ hottest (r .temperature) ≡ hot
-      → tempGood r ≡ not cold && not hot
+  pub temp-tested : tempGood r ≡ inRange (r .temperature)
   unfolding tempGood
-  temp-by-tests c h = rw (leZ-not-ltZ coldest (r .temperature), leZ-not-ltZ (r .temperature) hottest, c, h)
+  temp-tested = refl
 
   pub name-short : r .«name_length» ≤ nameLimit → nameLengthGood r ≡ true
   unfolding nameLengthGood

@@ -12,35 +12,45 @@ use native.Mathlib.Nat.{sub-zero}
 use borrow.Author.Tests.{ltb-true, ltb-false}
 use lib.Dec.{ltb}
 use lib.Seq.{drop-cons, drop-length}
-use Rattle.batch.specs.Good.{every, isZero, isCharacter, nameCellsGood}
+use Rattle.batch.specs.Good.{every, firstThen, isZero, isCharacter, nameCellsGood}
 use Rattle.batch.proofs.Good.{by-test}
 
+-- ---- cells of any type, the first n of which pass one test and the rest another
+module _ {A : Type 0} (f g : A → Bool) where
+  first-more : (n : ℕ) (x : A) (xs : List A) → firstThen f g (suc n) (x ∷ xs) ≡ f x && firstThen f g n xs
+  first-more n x xs = and-assoc (f x) (every f (take n xs)) (every g (drop n xs))
+
+  -- those from i on
+  pub then-more : (n : ℕ) (xs : List A) (i : ℕ) (d : A) → i < length xs →
+      firstThen f g (n - i) (drop i xs) ≡ cond (ltb i n) (f (getD xs i d)) (g (getD xs i d)) && firstThen f g (n - (i + 1)) (drop (i + 1) xs)
+  then-more n xs i d inside =
+      by-test (ltb i n)
+      (λ t.
+      let l = ltb-true i n t in
+      let e : n - i ≡ suc (n - (i + 1)) = omega arith in
+      rw (t, e, add-one i, drop-cons xs i d) (first-more (n - suc i) (getD xs i d) (drop (suc i) xs)))
+      (λ t.
+      let l = ltb-false i n t in
+      let e : n - i ≡ 0 = omega arith in
+      let e' : n - (i + 1) ≡ 0 = omega arith in
+      rw (t, e, e', add-one i, drop-cons xs i d))
+
+  none-left : (n : ℕ) → firstThen f g n [] ≡ true
+  none-left zero = refl
+  none-left (suc n) = refl
+
+  pub then-end : (n : ℕ) (xs : List A) → firstThen f g n (drop (length xs) xs) ≡ true
+  then-end n xs = rw (drop-length xs) (none-left n)
+
+-- ---- the cells of a name
 -- the cells from i on are good, for a name of n characters
 abbrev pub goodFrom : ℕ → List ℕ → ℕ → Bool
 goodFrom n cells i = nameCellsGood (n - i) (drop i cells)
 
-character-first : (n b : ℕ) (cells : List ℕ) → nameCellsGood (suc n) (b ∷ cells) ≡ isCharacter b && nameCellsGood n cells
-unfolding nameCellsGood
-character-first n b cells =
-    and-assoc (isCharacter b) (every isCharacter (take n cells)) (every isZero (drop n cells))
-
-fill-first : (b : ℕ) (cells : List ℕ) → nameCellsGood 0 (b ∷ cells) ≡ isZero b && nameCellsGood 0 cells
-unfolding nameCellsGood
-fill-first b cells = refl
-
 pub goodFrom-more : (n : ℕ) (cells : List ℕ) (i : ℕ) → i < length cells →
     goodFrom n cells i ≡ cond (ltb i n) (isCharacter (getD cells i 0)) (isZero (getD cells i 0)) && goodFrom n cells (i + 1)
-goodFrom-more n cells i inside =
-    by-test (ltb i n)
-    (λ t.
-    let l = ltb-true i n t in
-    let e : n - i ≡ suc (n - (i + 1)) = omega arith in
-    rw (t, e, add-one i, drop-cons cells i 0) (character-first _ _ _))
-    (λ t.
-    let l = ltb-false i n t in
-    let e : n - i ≡ 0 = omega arith in
-    let e' : n - (i + 1) ≡ 0 = omega arith in
-    rw (t, e, e', add-one i, drop-cons cells i 0) (fill-first _ _))
+unfolding nameCellsGood
+goodFrom-more n cells i inside = then-more isCharacter isZero n cells i 0 inside
 
 pub every-more : (f : ℕ → Bool) (cells : List ℕ) (i : ℕ) → i < length cells →
     every f (drop i cells) ≡ f (getD cells i 0) && every f (drop (i + 1) cells)
@@ -49,13 +59,9 @@ every-more f cells i inside = rw (add-one i, drop-cons cells i 0)
 pub goodFrom-start : (n : ℕ) (cells : List ℕ) → nameCellsGood n cells ≡ goodFrom n cells 0
 goodFrom-start n cells = rw (sub-zero n)
 
-no-cell : (n : ℕ) → nameCellsGood n [] ≡ true
-unfolding nameCellsGood
-no-cell zero = refl
-no-cell (suc n) = refl
-
 pub goodFrom-end : (n : ℕ) (cells : List ℕ) → goodFrom n cells (length cells) ≡ true
-goodFrom-end n cells = rw (drop-length cells) (no-cell _)
+unfolding nameCellsGood
+goodFrom-end n cells = then-end isCharacter isZero (n - length cells) cells
 
 -- a turn: the whole is what was found so far, this cell and the cells to come
 module _ {whole : Bool} (before here later : Bool) where

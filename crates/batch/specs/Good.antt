@@ -36,22 +36,30 @@ abbrev pub every : {A : Type 0} → (A → Bool) → List A → Bool
 every f [] = true
 every f (x ∷ xs) = f x && every f xs
 
+-- the first n elements pass the test f, the rest the test g
+abbrev pub firstThen : {A : Type 0} → (A → Bool) → (A → Bool) → ℕ → List A → Bool
+firstThen f g n xs = every f (take n xs) && every g (drop n xs)
+
 abbrev pub isZero : ℕ → Bool
 isZero n = eqb n 0
 
 abbrev pub isCharacter : ℕ → Bool
 isCharacter b = leb firstCharacter b && leb b lastCharacter
 
+-- a temperature that a record may have
+abbrev pub inRange : ℤ → Bool
+inRange x = leZ coldest x && leZ x hottest
+
 -- the first `n` cells are characters, the rest are 0
 unfoldable pub nameCellsGood : ℕ → List ℕ → Bool
-nameCellsGood n cells = every isCharacter (take n cells) && every isZero (drop n cells)
+nameCellsGood n cells = firstThen isCharacter isZero n cells
 
 -- the clauses of a good record
 unfoldable pub batchGood : BatchRecord → Bool
 batchGood r = not (isZero (r .batch .0))
 
 unfoldable pub tempGood : BatchRecord → Bool
-tempGood r = leZ coldest (r .temperature) && leZ (r .temperature) hottest
+tempGood r = inRange (r .temperature)
 
 unfoldable pub nameLengthGood : BatchRecord → Bool
 nameLengthGood r = leb (r .«name_length») nameLimit

@@ -5,11 +5,12 @@ use refusal::Refusal;
 ghost use mathlib.Core.Path.{_≡_};
 ghost use mathlib.Core.Bool.{cond};
 ghost use lib.ListN as ListN;
-ghost use Rattle.batch.specs.Good.{every, isZero, isCharacter, nameLimit, nameCellsGood, recordOf, verdictOf, verdictNumber, goodRecord};
+ghost use Rattle.batch.specs.Good.{every, inRange, isZero, isCharacter, nameLimit, nameCellsGood, recordOf, verdictOf, verdictNumber, goodRecord};
 ghost use Rattle.batch.specs.Blank.{noRecord};
 ghost use Rattle.batch.specs.Same.{sameBatch};
 
 // A batch number, a type of its own so that it is never taken for a node or a channel number. A good record's is not 0.
+#[repr(C)]
 pub struct BatchNo(pub u32);
 
 pub struct BatchRecord {
@@ -138,6 +139,16 @@ pub fn all_zero(cells: &[u8]) -> bool
     zero
 }
 
+// Whether a temperature is one that a record may have.
+pub fn in_range(temperature: i16) -> bool
+    ensures { λ r. ⌜ r ≡ inRange temperature ⌝ }
+{
+    if temperature < BatchRecord::COLDEST {
+        return false;
+    }
+    temperature <= BatchRecord::HOTTEST
+}
+
 // Whether a cell of a name is what stands in its place: a character or the fill.
 fn cell_good(character: bool, cell: u8) -> bool
     ensures { λ r. ⌜ r ≡ cond character (isCharacter cell) (isZero cell) ⌝ }
@@ -178,10 +189,7 @@ fn judge_fields(number: u32, vessel: u8, temperature: i16, name_length: u8, name
     if number == 0 {
         return Verdict::Refused(Refusal::BatchNumberZero);
     }
-    if temperature < BatchRecord::COLDEST {
-        return Verdict::Refused(Refusal::TemperatureOutOfRange);
-    }
-    if BatchRecord::HOTTEST < temperature {
+    if !in_range(temperature) {
         return Verdict::Refused(Refusal::TemperatureOutOfRange);
     }
     if BatchRecord::NAME_LIMIT < name_length {

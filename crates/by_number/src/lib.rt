@@ -1,8 +1,9 @@
 // The ring calls and the tape's commands with plain numbers in and out, by value: what C sees. Here are the structs for C and the ring
-// calls, each made by value (`by_value`) and its answer told in numbers; `commands` has the tape's commands and `records` the batch
-// record. `vessel_ring` exports them and lends a ring to the calls.
+// calls, each made by value (`by_value`) and its answer told in numbers; `commands` has the tape's commands, `records` the batch record
+// and `tables` what the history says. `vessel_ring` exports them and lends a ring or a table to the calls.
 pub mod commands;
-mod records;
+pub mod records;
+pub mod tables;
 
 use crate::records::record_for;
 use crate::records::record_of;
@@ -54,6 +55,16 @@ pub struct Waiting {
     pub set: u64,
     pub tasks: u32,
     pub refusal: u8,
+}
+
+// The figures of a batch. `held` is 1 where the table has a row of it; elsewhere the three figures are zero.
+#[repr(C)]
+pub struct BatchFigures {
+    pub sum: i32,
+    pub lowest: i16,
+    pub highest: i16,
+    pub refusal: u8,
+    pub held: u8,
 }
 
 // A command of the tape: its command byte, its operands of one byte, and the record of a send. What it does not have is zero.

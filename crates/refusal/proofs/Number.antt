@@ -11,7 +11,7 @@ use Rattle.refusal.specs.declared.Refusal.the-variants.{NothingToStart, 
 use Rattle.refusal.specs.declared.Refusal.the-variants.{BatchNumberZero, TemperatureOutOfRange, NameTooLong, BadName}
 use Rattle.refusal.specs.declared.Refusal.the-variants.{AlreadyOffered, NoSuchNode, LineEmpty, NoFreeSlot, BufferEmpty, NextBufferFull}
 use Rattle.refusal.specs.declared.Refusal.the-variants.{TurnMarkSet, UnknownCommand, CommandCut, PlaceBeyondEnd, UnsoundRing, NoRoomToWrite}
-use Rattle.refusal.specs.declared.Refusal.the-variants.{NotAsking, RequestInBuffer}
+use Rattle.refusal.specs.declared.Refusal.the-variants.{NotAsking, RequestInBuffer, NoEmptyRow}
 use Rattle.refusal.specs.Number.{numberOf, OneMeaning, InRange}
 
 abbrev refusals : List Refusal
@@ -20,7 +20,7 @@ refusals =
     TooFewSlots ∷ NotStarted ∷ NoSuchChannel ∷ NotResting ∷ BatchNumberZero ∷
     TemperatureOutOfRange ∷ NameTooLong ∷ BadName ∷ AlreadyOffered ∷ NoSuchNode ∷
     LineEmpty ∷ NoFreeSlot ∷ BufferEmpty ∷ NextBufferFull ∷ TurnMarkSet ∷ UnknownCommand ∷
-    CommandCut ∷ PlaceBeyondEnd ∷ UnsoundRing ∷ NoRoomToWrite ∷ NotAsking ∷ RequestInBuffer ∷ []
+    CommandCut ∷ PlaceBeyondEnd ∷ UnsoundRing ∷ NoRoomToWrite ∷ NotAsking ∷ RequestInBuffer ∷ NoEmptyRow ∷ []
 
 -- the refusal of a number
 abbrev caseOf : ℕ → Refusal
@@ -29,7 +29,7 @@ caseOf n = getD refusals (n - 1) AlreadyStarted
 record Known (r : Refusal) : Type 0 where
   back : caseOf (numberOf r) ≡ r
   least : 1 ≤ numberOf r
-  most : numberOf r ≤ 28
+  most : numberOf r ≤ 29
 
 known : (r : Refusal) → Known r
 known AlreadyStarted = record { back = refl; least = lit≤ tt; most = lit≤ tt }
@@ -60,6 +60,7 @@ known UnsoundRing = record { back = refl; least = lit≤ tt; most = lit≤ tt }
 known NoRoomToWrite = record { back = refl; least = lit≤ tt; most = lit≤ tt }
 known NotAsking = record { back = refl; least = lit≤ tt; most = lit≤ tt }
 known RequestInBuffer = record { back = refl; least = lit≤ tt; most = lit≤ tt }
+known NoEmptyRow = record { back = refl; least = lit≤ tt; most = lit≤ tt }
 
 pub one-meaning : OneMeaning
 one-meaning a b e = sym (known a .back) ∙ ap caseOf e ∙ known b .back

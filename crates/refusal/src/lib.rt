@@ -52,7 +52,7 @@ pub enum Refusal {
     CommandCut,
     // The place is beyond the length of the bytes.
     PlaceBeyondEnd,
-    // The ring handed in is not sound.
+    // The ring or the history table handed in is not sound.
     UnsoundRing,
     // There are fewer bytes from the place on than the command is wide.
     NoRoomToWrite,
@@ -60,10 +60,12 @@ pub enum Refusal {
     NotAsking,
     // The channel's request is in a buffer.
     RequestInBuffer,
+    // The batch has no row in the history table, and no row is empty.
+    NoEmptyRow,
 }
 
 impl Refusal {
-    // The number of the refusal, from 1 to 28.
+    // The number of the refusal, from 1 to 29.
     pub fn number(self) -> u8
         ensures { λ r. ⌜ r ≡ numberOf self ⌝ }
     {
@@ -96,6 +98,7 @@ impl Refusal {
             Refusal::NoRoomToWrite => 26,
             Refusal::NotAsking => 27,
             Refusal::RequestInBuffer => 28,
+            Refusal::NoEmptyRow => 29,
         }
     }
 }

@@ -1,6 +1,6 @@
--- The kinds (Params.antt) of what the calls take and answer, and the step as a pair (Walk.antt) of a ring and a reply. Assumes
+-- The kinds (Params.antt of `lent`) of what the calls take and answer, and the step as a pair (Walk.antt) of a ring and a reply. Assumes
 -- nothing.
-use mathlib.Core.List.{[], _∷_}
+use mathlib.Core.Path.{refl}
 use denote.Struct.Laws as LL
 use Rattle.batch.proofs.BatchRecord as B
 use Rattle.batch.proofs.BatchRecord.Laws as B′
@@ -18,39 +18,37 @@ use Rattle.network.proofs.Step as S
 use Rattle.network.proofs.Step.Laws as S′
 use Rattle.questions.proofs.Tasks as T
 use Rattle.questions.proofs.Tasks.Laws as T′
-use Rattle.site.proofs.Values.{parts}
-use Rattle.site.proofs.Params.{Kind, struct-kind, enum-kind}
+use Rattle.lent.proofs.Params.{Kind, struct-kind, enum-kind}
 use Rattle.site.proofs.Walk.{Paired}
 
 abbrev pub node-no : Kind
-node-no = struct-kind N.the-type N′.the-laws N′.the-copy
+node-no = struct-kind N.the-type N′.the-laws N′.the-plain N′.the-copy
 
 abbrev pub channel-no : Kind
-channel-no = struct-kind C.the-type C′.the-laws C′.the-copy
+channel-no = struct-kind C.the-type C′.the-laws C′.the-plain C′.the-copy
 
 abbrev pub batch-record : Kind
-batch-record = struct-kind B.the-type B′.the-laws B′.the-copy
+batch-record = struct-kind B.the-type B′.the-laws B′.the-plain B′.the-copy
 
 abbrev pub ring-call : Kind
-ring-call = enum-kind K.the-type K′.the-laws tt K′.the-copy
+ring-call = enum-kind K.the-type K′.the-laws tt K′.the-plain K′.the-copy
 
 abbrev pub answer : Kind
-answer = enum-kind A.the-type A′.the-laws tt A′.the-copy
+answer = enum-kind A.the-type A′.the-laws tt A′.the-plain A′.the-copy
 
 abbrev pub tasks : Kind
-tasks = enum-kind T.the-type T′.the-laws tt T′.the-copy
+tasks = enum-kind T.the-type T′.the-laws tt T′.the-plain T′.the-copy
 
 abbrev pub reply : Kind
-reply = struct-kind P.the-type P′.the-laws P′.the-copy
+reply = struct-kind P.the-type P′.the-laws P′.the-plain P′.the-copy
 
 abbrev pub step : Paired reply
 step = record {
+  kind = struct-kind S.the-type S′.the-laws S′.the-plain S′.the-copy;
   name = S.the-type .name;
-  row = S.the-row;
-  ring = λ s. s .ring;
-  out = λ s. s .reply;
-  spelled = LL.tells S.the-type S′.the-laws;
-  typed = λ 𝓤 H A W s v is. LL.lawful S.the-type S′.the-laws 𝓤 H A W .typed s (v ∷ []) is .0;
-  parts = parts;
-  makes = λ 𝓤 H A W. LL.makes P.the-type P′.the-plain 𝓤 H A;
+  ring-of = λ s. s .ring;
+  out-of = λ s. s .reply;
+  shaped = refl;
+  spelled = λ s. refl;
+  parts = λ s fine. (LL.owed S.the-type S′.the-laws s _ fine .0, LL.owed S.the-type S′.the-laws s _ fine .1 .0);
 }

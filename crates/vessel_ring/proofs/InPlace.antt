@@ -14,22 +14,21 @@ use denote.Ref.{now}
 use denote.Triple.Statement.{Triple}
 use denote.Triple.Spec.{Meets}
 use denote.Triple.Clauses.{closing}
-use Rattle.network.specs.Layout.{stepRing}
 use Rattle.network.specs.declared.Ring.{Ring}
-use Rattle.network.specs.Runs.{Call}
-use Rattle.site.proofs.Called.{CallOf}
-use Rattle.site.proofs.Params.{Kind, Values, u8-kind}
-use Rattle.site.proofs.Walk.{Paired, Lent, Clause, clauses, returned, inPlace, in-place}
+use Rattle.lent.proofs.Contract.{Lent, Clause, clauses}
+use Rattle.lent.proofs.Params.{Kind, Values}
+use Rattle.site.proofs.Values.{changed-ring}
+use Rattle.site.proofs.Walk.{Paired, CallBy, returned, inPlace, in-place}
 
 -- any contract that says that the ring and the answer are those of the pair that comes back
-module _ (X : Kind) (T : Paired X) (ps : List Kind) (F : Ring → Values ps → T .row .Denot) where
-  abbrev Changed : {M : Type 1} (𝓤 : URA M) → Clause X T ps F 𝓤
-  Changed 𝓤 κs a r z = fact 𝓤 ((now (z .0) ≡ T .ring (returned X T ps F κs a)) × (r ≡ T .out (returned X T ps F κs a)))
+module _ (X : Kind) (T : Paired X) (ps : List Kind) (F : Ring → Values ps → T .kind .row .Denot) where
+  abbrev Changed : {M : Type 1} (𝓤 : URA M) → Clause changed-ring ps X 𝓤
+  Changed 𝓤 κs a r z = fact 𝓤 ((now (z .0) ≡ T .ring-of (returned X T ps F κs a)) × (r ≡ T .out-of (returned X T ps F κs a)))
 
   pub changes :
       {M : Type 1} (𝓤 : URA M) (H : Heap 𝓤) (𝓜 : Model 𝓤 H) (𝓖 : GhostRules 𝓤 H) (𝓡 : Running 𝓤 H 𝓜) (env : Env) (key g : Name) (callee : Routine) →
       Closed 𝓤 H (tables 𝓤 H 𝓜 𝓡 env .C) (tables 𝓤 H 𝓜 𝓡 env .Λ) key (inPlace X T g ps) → env g ≡ callee →
-      Triple 𝓤 (𝓡 .run callee) (CallOf (T .row) ps F 𝓤 H (𝓖 .A)) →
-      Meets 𝓤 H (𝓖 .A) (Lent X T ps F .signature) (tables 𝓤 H 𝓜 𝓡 env .C key)
-      (closing 𝓤 H (𝓖 .A) (Lent X T ps F) (clauses X T ps F 𝓤 (Changed 𝓤)))
-  changes 𝓤 H 𝓜 𝓖 𝓡 = in-place X T ps F 𝓤 H 𝓜 𝓖 𝓡 (Changed 𝓤) (λ κs a ws. factI 𝓤 _ (emp 𝓤) (refl, refl))
+      Triple 𝓤 (𝓡 .run callee) (CallBy X T ps F 𝓤 H (𝓖 .A)) →
+      Meets 𝓤 H (𝓖 .A) (Lent changed-ring ps X .signature) (tables 𝓤 H 𝓜 𝓡 env .C key)
+      (closing 𝓤 H (𝓖 .A) (Lent changed-ring ps X) (clauses changed-ring ps X 𝓤 (Changed 𝓤)))
+  changes 𝓤 H 𝓜 𝓖 𝓡 = in-place X T ps F 𝓤 H 𝓜 𝓖 𝓡 (Changed 𝓤) (λ κs a ws is. factI 𝓤 _ (emp 𝓤) (refl, refl))

@@ -1,10 +1,8 @@
--- The kinds (Params.antt of `site`) of what the exported functions take and answer, and the structs of a ring and such a value that the
+-- The kinds (Params.antt of `lent`) of what the exported functions take and answer, and the structs of a ring and such a value that the
 -- calls by value return. Assumes nothing.
-use mathlib.Core.List.{[], _∷_}
-use mir.Syntax.{w8}
-use denote.Plain.{uint-makes}
+use mathlib.Core.Path.{refl}
 use denote.Struct.Laws as LL
-use Rattle.site.proofs.Params.{Kind, u8-kind, struct-kind}
+use Rattle.lent.proofs.Params.{Kind, u8-kind, struct-kind}
 use Rattle.site.proofs.Walk.{Paired}
 use Rattle.by_number.proofs.Record as R
 use Rattle.by_number.proofs.Record.Laws as R′
@@ -14,43 +12,46 @@ use Rattle.by_number.proofs.HopsLeft as H
 use Rattle.by_number.proofs.HopsLeft.Laws as H′
 use Rattle.by_number.proofs.Waiting as W
 use Rattle.by_number.proofs.Waiting.Laws as W′
+use Rattle.by_number.proofs.BatchFigures as F
+use Rattle.by_number.proofs.BatchFigures.Laws as F′
 use Rattle.by_number.proofs.Told as T
 use Rattle.by_number.proofs.Told.Laws as T′
 use Rattle.by_number.proofs.Moved as M
 use Rattle.by_number.proofs.Moved.Laws as M′
 
 abbrev pub c-record : Kind
-c-record = struct-kind R.the-type R′.the-laws R′.the-copy
+c-record = struct-kind R.the-type R′.the-laws R′.the-plain R′.the-copy
 
 abbrev pub delivery : Kind
-delivery = struct-kind D.the-type D′.the-laws D′.the-copy
+delivery = struct-kind D.the-type D′.the-laws D′.the-plain D′.the-copy
 
 abbrev pub hops-left : Kind
-hops-left = struct-kind H.the-type H′.the-laws H′.the-copy
+hops-left = struct-kind H.the-type H′.the-laws H′.the-plain H′.the-copy
 
 abbrev pub waiting : Kind
-waiting = struct-kind W.the-type W′.the-laws W′.the-copy
+waiting = struct-kind W.the-type W′.the-laws W′.the-plain W′.the-copy
+
+abbrev pub batch-figures : Kind
+batch-figures = struct-kind F.the-type F′.the-laws F′.the-plain F′.the-copy
 
 abbrev pub told : Paired u8-kind
 told = record {
+  kind = struct-kind T.the-type T′.the-laws T′.the-plain T′.the-copy;
   name = T.the-type .name;
-  row = T.the-row;
-  ring = λ s. s .ring;
-  out = λ s. s .refusal;
-  spelled = LL.tells T.the-type T′.the-laws;
-  typed = λ 𝓤 H A W s v is. LL.lawful T.the-type T′.the-laws 𝓤 H A W .typed s (v ∷ []) is .0;
-  parts = λ s vs is. (LL.owed T.the-type T′.the-laws s vs is .0, LL.owed T.the-type T′.the-laws s vs is .1 .0);
-  makes = λ 𝓤 H A W. uint-makes 𝓤 H A W w8;
+  ring-of = λ s. s .ring;
+  out-of = λ s. s .refusal;
+  shaped = refl;
+  spelled = λ s. refl;
+  parts = λ s fine. (LL.owed T.the-type T′.the-laws s _ fine .0, LL.owed T.the-type T′.the-laws s _ fine .1 .0);
 }
 
 abbrev pub moved : Paired delivery
 moved = record {
+  kind = struct-kind M.the-type M′.the-laws M′.the-plain M′.the-copy;
   name = M.the-type .name;
-  row = M.the-row;
-  ring = λ s. s .ring;
-  out = λ s. s .delivery;
-  spelled = LL.tells M.the-type M′.the-laws;
-  typed = λ 𝓤 H A W s v is. LL.lawful M.the-type M′.the-laws 𝓤 H A W .typed s (v ∷ []) is .0;
-  parts = λ s vs is. (LL.owed M.the-type M′.the-laws s vs is .0, LL.owed M.the-type M′.the-laws s vs is .1 .0);
-  makes = λ 𝓤 H A W. LL.makes D.the-type D′.the-plain 𝓤 H A;
+  ring-of = λ s. s .ring;
+  out-of = λ s. s .delivery;
+  shaped = refl;
+  spelled = λ s. refl;
+  parts = λ s fine. (LL.owed M.the-type M′.the-laws s _ fine .0, LL.owed M.the-type M′.the-laws s _ fine .1 .0);
 }

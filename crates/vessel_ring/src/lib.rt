@@ -1,7 +1,8 @@
 // The ring for firmware, as C functions: include/vessel_ring.h has their types for C and says how to use them, and `rt staticlib
-// vessel_ring` writes the library. The ring calls go on a ring that the caller keeps and lends by pointer; beside them stand the
-// reader and the writer of commands, the test for a sound ring and the listing of a tape. Every function takes every value: no byte of a
-// ring, a record, a command or a tape is trusted, a refusal answers its number and leaves everything as it was.
+// vessel_ring` writes the library. The ring calls go on a ring that the caller keeps and lends by pointer, those of the history on a
+// table likewise; beside them stand the reader and the writer of commands, the test for a sound ring and the listing of a tape. Every
+// function takes every value: no byte of a ring, a table, a record, a command or a tape is trusted, a refusal answers its number and leaves
+// everything as it was.
 //
 // One more call on the ring takes
 //
@@ -11,7 +12,9 @@
 // - where its answer has a value that no other has, a field of `Said` of `by_number` and of the struct that it answers;
 // - its prototype in the header, and its arm in tests/calls.
 //
-// One more command of the tape takes nothing here: `commands` of `by_number` reads the tape's own table.
+// One more command of the tape takes nothing here: `commands` of `by_number` reads the tape's own table. A call on a lent table hands it on:
+// its operand and its answer are turned by two functions of `by_number`, and `Handing.antt` of `lent` has the argument.
+use by_number::BatchFigures;
 use by_number::Command;
 use by_number::Delivery;
 use by_number::HopsLeft;
@@ -20,9 +23,13 @@ use by_number::Record;
 use by_number::Waiting;
 use by_number::Writing;
 use by_number::commands;
+use by_number::records;
+use by_number::tables;
+use history::Row;
 use network::Ring;
 use runner::Session;
 ghost use mathlib.Core.Path.{_≡_};
+ghost use Rattle.history.specs.History as History;
 ghost use Rattle.network.specs.Counting.{one};
 ghost use Rattle.network.specs.Layout.{freshRing, soundRing};
 ghost use Rattle.network.specs.Network.{nodeNo, channelNo};
@@ -33,6 +40,7 @@ ghost use Rattle.by_number.specs.Answers.{numberTo, deliveryTo, hopsLeftIn, wai
 ghost use Rattle.by_number.specs.Commands.{readingIn, writingTo, afterWriting};
 ghost use Rattle.vessel_ring.specs.Listed.{Listed};
 ghost use Rattle.by_number.specs.Records.{recordOf};
+ghost use Rattle.by_number.specs.Tables.{figuresIn};
 
 #[no_mangle]
 pub extern "C" fn vessel_ring_fresh() -> Ring
@@ -141,6 +149,35 @@ pub extern "C" fn vessel_ring_is_sound(ring: &Ring) -> u8
     ensures { λ r. ⌜ r ≡ one (soundRing (now (ring .entry))) ⌝ }
 {
     by_number::is_sound(*ring)
+}
+
+#[no_mangle]
+pub extern "C" fn vessel_history_note(table: &mut [Row], record: Record) -> u8
+    ensures { λ r. ⌜ (now (table .exit) ≡ History.note (recordOf «record») (now (table .entry)) .table)
+        × (r ≡ History.outcomeNumber (History.note (recordOf «record») (now (table .entry)) .outcome)) ⌝ }
+{
+    let record = records::record_of(record);
+    let outcome = history::note(table, record);
+    tables::number_in(outcome)
+}
+
+#[no_mangle]
+pub extern "C" fn vessel_history_close(table: &mut [Row], batch: u32) -> u8
+    ensures { λ r. ⌜ (now (table .exit) ≡ History.close batch (now (table .entry)) .table)
+        × (r ≡ History.outcomeNumber (History.close batch (now (table .entry)) .outcome)) ⌝ }
+{
+    let batch = tables::batch_no(batch);
+    let outcome = history::close(table, batch);
+    tables::number_in(outcome)
+}
+
+#[no_mangle]
+pub extern "C" fn vessel_history_figures(table: &[Row], batch: u32) -> BatchFigures
+    ensures { λ r. ⌜ r ≡ figuresIn (History.figures batch (now (table .entry))) ⌝ }
+{
+    let batch = tables::batch_no(batch);
+    let figures = history::figures_of(table, batch);
+    tables::figures_in(figures)
 }
 
 #[no_mangle]

@@ -8,6 +8,9 @@ pub const CHANNELS: usize = 64;
 /// The most slots of a node, and the cells of a node's row.
 pub const ROW: usize = 64;
 pub const RECORD_BYTES: usize = 40;
+/// The rows of a history, and the readings of a row.
+pub const HISTORY_ROWS: usize = 128;
+pub const READINGS: usize = 24;
 
 pub const NOT_RESTING: u8 = 10;
 
@@ -69,6 +72,24 @@ pub struct Waiting {
 
 #[repr(C)]
 #[derive(Clone, Copy, PartialEq, Eq, Debug, Default)]
+pub struct Row {
+    pub batch: u32,
+    pub count: u32,
+    pub readings: [i16; READINGS],
+}
+
+#[repr(C)]
+#[derive(Clone, Copy, PartialEq, Eq, Debug, Default)]
+pub struct Figures {
+    pub sum: i32,
+    pub lowest: i16,
+    pub highest: i16,
+    pub refusal: u8,
+    pub held: u8,
+}
+
+#[repr(C)]
+#[derive(Clone, Copy, PartialEq, Eq, Debug, Default)]
 pub struct Command {
     pub code: u8,
     pub first: u8,
@@ -98,13 +119,15 @@ const _: () = {
     assert!(size_of::<Record>() == 40 && offset_of!(Record, temperature) == 6);
     assert!(size_of::<Delivery>() == 44 && offset_of!(Delivery, record) == 4);
     assert!(size_of::<Hops>() == 2 && size_of::<Waiting>() == 16 && offset_of!(Waiting, refusal) == 12);
+    assert!(size_of::<Row>() == 56 && offset_of!(Row, readings) == 8);
+    assert!(size_of::<Figures>() == 12 && offset_of!(Figures, highest) == 6 && offset_of!(Figures, held) == 9);
     assert!(size_of::<Command>() == 44 && offset_of!(Command, record) == 4);
     assert!(size_of::<Reading>() == 56 && offset_of!(Reading, command) == 12);
     assert!(size_of::<Writing>() == 16);
 };
 
 mod c {
-    use super::{Command, Delivery, Hops, Reading, Record, Ring, Waiting, Writing};
+    use super::{Command, Delivery, Figures, Hops, Reading, Record, Ring, Row, Waiting, Writing};
 
     extern "C" {
         pub fn vessel_ring_fresh() -> Ring;
@@ -119,6 +142,9 @@ mod c {
         pub fn vessel_ring_hops_left(ring: &Ring, channel: u8) -> Hops;
         pub fn vessel_ring_waiting_set(ring: &Ring, node: u8) -> Waiting;
         pub fn vessel_ring_is_sound(ring: &Ring) -> u8;
+        pub fn vessel_history_note(table: *mut Row, rows: usize, record: Record) -> u8;
+        pub fn vessel_history_close(table: *mut Row, rows: usize, batch: u32) -> u8;
+        pub fn vessel_history_figures(table: *const Row, rows: usize, batch: u32) -> Figures;
         pub fn vessel_tape_read(bytes: *const u8, length: usize, place: usize) -> Reading;
         pub fn vessel_tape_write(bytes: *mut u8, length: usize, place: usize, command: Command) -> Writing;
         pub fn vessel_ring_list(tape: *const u8, length: usize, out: *mut u8, room: usize) -> usize;
@@ -182,6 +208,21 @@ impl Ring {
     pub fn is_sound(&self) -> bool {
         unsafe { c::vessel_ring_is_sound(self) == 1 }
     }
+}
+
+/// Notes a record in a history, which is 128 rows; all of them empty to begin with.
+pub fn note(table: &mut [Row], record: Record) -> u8 {
+    unsafe { c::vessel_history_note(table.as_mut_ptr(), table.len(), record) }
+}
+
+/// Closes a batch of a history.
+pub fn close(table: &mut [Row], batch: u32) -> u8 {
+    unsafe { c::vessel_history_close(table.as_mut_ptr(), table.len(), batch) }
+}
+
+/// The figures of a batch in a history.
+pub fn figures(table: &[Row], batch: u32) -> Figures {
+    unsafe { c::vessel_history_figures(table.as_ptr(), table.len(), batch) }
 }
 
 pub fn read(tape: &[u8], place: usize) -> Reading {

@@ -1,15 +1,20 @@
 //! The two-node ring of document 01, call by call, as examples/c/listing.c runs it; the output is the same.
 
-use vessel_ring::{list, read, write, Command, Delivery, Record, Ring, NOT_RESTING};
+use vessel_ring::{close, figures, list, note, read, write};
+use vessel_ring::{Command, Delivery, Record, Ring, Row, HISTORY_ROWS, NOT_RESTING};
 
-#[derive(Default)]
 struct Listing {
     calls: u32,
     accepted: u32,
     refused: u32,
+    history: [Row; HISTORY_ROWS],
 }
 
 impl Listing {
+    fn new() -> Listing {
+        Listing { calls: 0, accepted: 0, refused: 0, history: [Row::default(); HISTORY_ROWS] }
+    }
+
     fn begin(&mut self, code: u8, refusal: u8) {
         self.calls += 1;
         if refusal == 0 {
@@ -35,6 +40,17 @@ impl Listing {
             }
         }
         println!();
+        if answer.delivered == 1 {
+            self.note(answer.record);
+        }
+    }
+
+    /// Notes a record in the history and says what is known of its batch then.
+    fn note(&mut self, record: Record) {
+        let refusal = note(&mut self.history, record);
+        let batch = record.batch;
+        let figures = figures(&self.history, batch);
+        println!("  noted {refusal}: batch {batch} lowest {} highest {} sum {}", figures.lowest, figures.highest, figures.sum);
     }
 
     /// A task that asks while its last request is still under way is refused, and asks again later.
@@ -73,6 +89,19 @@ fn damaged(ring: &Ring) {
     println!(", the ring {}", if copy == before { "as it was" } else { "CHANGED" });
 }
 
+/// A reading in a row of no batch: every call refuses the table and leaves it as it is.
+fn damaged_history(history: &[Row; HISTORY_ROWS]) {
+    let mut copy = *history;
+    copy[90].readings[0] = 5;
+    let before = copy;
+    let answers = [note(&mut copy, Record::default()), close(&mut copy, 7), figures(&copy, 7).refusal];
+    print!("a reading of no batch: calls");
+    for answer in answers {
+        print!(" {answer}");
+    }
+    println!(", the history {}", if copy == before { "as it was" } else { "CHANGED" });
+}
+
 /// The same calls as a tape: written, read back and run.
 fn taped() {
     let plan = [[0x10, 1, 0], [0x10, 2, 0], [0x11, 1, 0], [0x12, 0, 0], [0x20, 0, 0]];
@@ -100,7 +129,7 @@ fn main() {
     let record = Record { batch: 7, vessel: 3, temperature: 612, name_length: 2, name };
 
     let mut ring = Ring::fresh();
-    let mut listing = Listing::default();
+    let mut listing = Listing::new();
     listing.plain(0x10, ring.add_node(1));
     listing.plain(0x10, ring.add_node(2));
     listing.plain(0x11, ring.add_channel(1, 0));
@@ -115,5 +144,6 @@ fn main() {
     listing.moved(ring.move_on(1));
     println!("end {} {}", listing.accepted, listing.refused);
     damaged(&ring);
+    damaged_history(&listing.history);
     taped();
 }

@@ -196,7 +196,7 @@ pub fn good_record(random: &mut Random) -> Record {
 }
 
 /// A record with one fault or several; the first in the order of 01 decides.
-fn bad_record(random: &mut Random) -> Record {
+pub fn bad_record(random: &mut Random) -> Record {
     let mut record = good_record(random);
     let faults = if random.percent(60) { 1 } else { random.between(2, 4) };
     for _ in 0..faults {

@@ -1,10 +1,12 @@
 //! The second model of the vessel ring: document 01 ("The vessel ring: nodes,
-//! channels, slots and records") with request N1 of document 02 ("A task that
-//! gives up"), written down once more in plain Rust, from those texts alone.
-//! Comments quote the sentence that the code follows, of 01 unless they say 02.
+//! channels, slots and records") with the requests N1 ("A task that gives up") and
+//! N2 ("Temperature history for each batch") of document 02, written down once
+//! more in plain Rust, from those texts alone. Comments quote the sentence that
+//! the code follows, of 01 unless they say 02.
 
 pub mod coverage;
 pub mod generate;
+pub mod history;
 pub mod listing;
 pub mod ring;
 pub mod tape;

@@ -7,6 +7,8 @@
 //! that wait to enter its buffer; a *turn mark* says that passing traffic has
 //! overtaken a waiting line once, so the line is next.
 
+use std::ops::RangeInclusive;
+
 /// "Nodes 0 to n - 1, n from 1 to 16."
 pub const NODES: usize = 16;
 /// "Channels 0 to c - 1, c from 1 to 64".
@@ -25,7 +27,8 @@ pub struct ChannelNumber(pub u8);
 #[derive(Clone, Copy, PartialEq, Eq, Debug)]
 pub struct BatchNumber(pub u32);
 
-/// The refusals of document 01, with its numbers; 27 and 28 are of 02's N1.
+/// The refusals of document 01, with its numbers; 27 and 28 are of 02's N1, 29 of
+/// its N2.
 #[derive(Clone, Copy, PartialEq, Eq, Debug)]
 #[repr(u8)]
 pub enum Refusal {
@@ -57,15 +60,19 @@ pub enum Refusal {
     NoRoomToWrite = 26,
     NotAsking = 27,
     RequestInBuffer = 28,
+    NoEmptyRow = 29,
 }
 
-fn require(condition: bool, else_refused: Refusal) -> Result<(), Refusal> {
+pub(crate) fn require(condition: bool, else_refused: Refusal) -> Result<(), Refusal> {
     if condition {
         Ok(())
     } else {
         Err(else_refused)
     }
 }
+
+/// "temperature in tenths of a degree Celsius (signed, -400 to 1200)"
+pub const TEMPERATURES: RangeInclusive<i16> = -400..=1200;
 
 /// "Batch number (32 bits, not 0), vessel (0 to 255), temperature in tenths of
 /// a degree Celsius (signed, -400 to 1200), name length 0 to 32, name of 32
@@ -99,7 +106,7 @@ impl Record {
     /// 14 a name byte or the fill is wrong".
     pub fn check(&self) -> Result<(), Refusal> {
         require(self.number.0 != 0, Refusal::BatchNumberZero)?;
-        require((-400..=1200).contains(&self.temperature), Refusal::TemperatureOutOfRange)?;
+        require(TEMPERATURES.contains(&self.temperature), Refusal::TemperatureOutOfRange)?;
         require(self.length <= 32, Refusal::NameTooLong)?;
         require(self.name_good(), Refusal::NameWrong)
     }

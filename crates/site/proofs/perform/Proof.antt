@@ -18,5 +18,5 @@ pub perform-spec : {M : Type 1} → statement M
 unfolding code.routine
 perform-spec 𝓤 H 𝓜 𝓖 𝓡 =
     in-place reply step (ring-call ∷ batch-record ∷ []) (λ ring a. stepRing (callOf (a .0) (a .1 .0)) ring) 𝓤 H 𝓜 𝓖 𝓡
-    (λ κs a. perform.clauses 𝓤 H (𝓖 .A) (𝓜 .mem) (𝓡 .run) κs a .ensures tt) (λ κs a ws. factI 𝓤 _ (emp 𝓤) (refl, refl))
+    (λ κs a. perform.clauses 𝓤 H (𝓖 .A) (𝓜 .mem) (𝓡 .run) κs a .ensures tt) (λ κs a ws is. factI 𝓤 _ (emp 𝓤) (refl, refl))
     code.env name by-value.name by-value.routine (code.unfolded 𝓤 H 𝓜 𝓡) code.calls-by-value·perform (met 𝓤 H 𝓜 𝓖 𝓡)

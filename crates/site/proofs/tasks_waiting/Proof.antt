@@ -11,9 +11,10 @@ use Rattle.questions.proofs.Waiting.{tasks-said}
 use Rattle.by_value.proofs.tasks_waiting as asked
 use Rattle.by_value.proofs.tasks_waiting.Symbol as by-value
 use Rattle.by_value.proofs.tasks_waiting.Met.{met}
-use Rattle.site.proofs.Called.{says-more}
-use Rattle.site.proofs.Params.{Values}
+use Rattle.lent.proofs.Called.{says-more}
+use Rattle.lent.proofs.Params.{Values}
 use Rattle.site.proofs.Types.{tasks, node-no}
+use Rattle.site.proofs.Values.{ring}
 use Rattle.site.proofs.Question.{question}
 use Rattle.site.proofs.tasks_waiting as tasks-waiting
 use Rattle.site.proofs.tasks_waiting.Key.{name}
@@ -21,15 +22,15 @@ use Rattle.site.proofs.tasks_waiting.Statement.{statement}
 use Rattle.site.proofs.tasks_waiting.Code as code
 
 abbrev answered : Ring → Values (node-no ∷ []) → Tasks
-answered ring a = tasksTo (a .0) ring
+answered h a = tasksTo (a .0) h
 
 pub tasks-waiting-spec : {M : Type 1} → statement M
 unfolding code.routine
 tasks-waiting-spec 𝓤 H 𝓜 𝓖 𝓡 =
     question (node-no ∷ []) tasks answered 𝓤 H 𝓜 𝓖 𝓡
     (λ κs a. tasks-waiting.clauses 𝓤 H (𝓖 .A) (𝓜 .mem) (𝓡 .run) κs a .ensures tt)
-    (λ κs a ws. factI 𝓤 _ (emp 𝓤) (refl, tasks-said (a .1 .0) _))
+    (λ κs a ws is. factI 𝓤 _ (emp 𝓤) (refl, tasks-said (a .1 .0) _))
     code.env name by-value.name by-value.routine (code.unfolded 𝓤 H 𝓜 𝓡) code.calls-by-value·tasks-waiting
-    (says-more (tasks .row) (node-no ∷ []) answered 𝓤 H 𝓜 𝓖 𝓡 by-value.routine
+    (says-more tasks (ring ∷ node-no ∷ []) (λ v. answered (v .0) (v .1)) 𝓤 H 𝓜 𝓖 𝓡 by-value.routine
     (λ κs a. asked.clauses 𝓤 H (𝓖 .A) (𝓜 .mem) (𝓡 .run) κs a .ensures tt)
     (λ κs a r _. fst∗ 𝓤 (fact 𝓤 (r ≡ answered (a .0) (a .1))) (fact 𝓤 (saidIn r ≡ tasksSaid (a .1 .0) (a .0)))) (met 𝓤 H 𝓜 𝓖 𝓡))

@@ -18,5 +18,5 @@ pub waiting-set-spec : {M : Type 1} → statement M
 unfolding code.routine
 waiting-set-spec 𝓤 H 𝓜 𝓖 𝓡 =
     question (node-no ∷ []) answer (λ ring a. answerTo (Runs.waitingSet (a .0)) ring) 𝓤 H 𝓜 𝓖 𝓡
-    (λ κs a. waiting-set.clauses 𝓤 H (𝓖 .A) (𝓜 .mem) (𝓡 .run) κs a .ensures tt) (λ κs a ws. factI 𝓤 _ (emp 𝓤) refl)
+    (λ κs a. waiting-set.clauses 𝓤 H (𝓖 .A) (𝓜 .mem) (𝓡 .run) κs a .ensures tt) (λ κs a ws is. factI 𝓤 _ (emp 𝓤) refl)
     code.env name by-value.name by-value.routine (code.unfolded 𝓤 H 𝓜 𝓡) code.calls-by-value·waiting-set (met 𝓤 H 𝓜 𝓖 𝓡)

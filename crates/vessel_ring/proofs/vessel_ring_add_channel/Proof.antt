@@ -3,7 +3,7 @@ use mathlib.Core.List.{[], _∷_}
 use Rattle.network.specs.Layout.{stepRing}
 use Rattle.network.specs.Network.{nodeNo}
 use Rattle.network.specs.Runs
-use Rattle.site.proofs.Params.{u8-kind}
+use Rattle.lent.proofs.Params.{u8-kind}
 use Rattle.by_number.specs.Answers.{toldOf}
 use Rattle.vessel_ring.proofs.InPlace.{changes}
 use Rattle.vessel_ring.proofs.Types.{told}

@@ -257,7 +257,7 @@ fn passed(sums: &Sums, drawn: u64) -> bool {
 
 /// What differs, and what makes the comparison worth little. A tape reaches 1 to
 /// 23, 27 and 28; 24 and 26 belong to places and lent buffers, 25 to a ring that
-/// did not come from these operations.
+/// did not come from these operations, 29 to the history.
 fn faults(sums: &Sums, drawn: u64) -> Vec<String> {
     let mut faults = Vec::new();
     if sums.differences > 0 {

@@ -1,0 +1,9 @@
+pub mod Bits
+pub mod Found
+pub mod Readings
+pub mod Figuring
+pub mod Rewritten
+pub mod Passing
+pub mod Running
+pub mod Types
+pub mod Worked

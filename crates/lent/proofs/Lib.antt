@@ -1,0 +1,9 @@
+pub mod Params
+pub mod Called
+pub mod Rows
+pub mod Storing
+pub mod Contract
+pub mod CalledOn
+pub mod Noting
+pub mod Asking
+pub mod Handing

@@ -1,0 +1,228 @@
+//! What was seen. The program fails when a part of it never was.
+
+use crate::damage::KINDS;
+use crate::draw::Call;
+use crate::lists::Lists;
+use std::collections::BTreeMap;
+use std::fmt::Display;
+use vessel_ring::{Row, HISTORY_ROWS, READINGS};
+
+/// What accepted calls have to show.
+const SIGHTS: [&str; 21] = [
+    "note: a first reading",
+    "note: of several empty rows the lowest, with rows in use behind it",
+    "note: the row that a close of a full table left, between others",
+    "note: a row that stands behind an empty row",
+    "note: a 24th reading",
+    "note: the oldest reading makes way",
+    "note: the lowest reading makes way",
+    "note: the highest reading makes way",
+    "note: a temperature of -400",
+    "note: a temperature of 1200",
+    "note: batch 4294967295",
+    "close: the first row",
+    "close: a row between others",
+    "close: the last row",
+    "close: a batch that has no row",
+    "close: batch 0",
+    "figures: of a batch with a row",
+    "figures: after a thousand readings since the last close",
+    "figures: none",
+    "figures: none, after a close",
+    "figures: none, batch 0",
+];
+
+/// The refusals that these calls have.
+const REFUSALS: [u8; 6] = [11, 12, 13, 14, 25, 29];
+/// The refusals of a bad record.
+const BAD_RECORD: [u8; 4] = [11, 12, 13, 14];
+/// The refusals that 25 comes before.
+const BEHIND_25: [u8; 5] = [11, 12, 13, 14, 29];
+const LAST: usize = HISTORY_ROWS - 1;
+
+/// Lengths of tables that are not 128.
+pub const LENGTHS: [usize; 5] = [0, 1, 127, 129, 300];
+
+/// An accepted call, with the table before it and after it.
+pub struct Seen<'a> {
+    pub call: Call,
+    pub before: &'a [Row],
+    pub after: &'a [Row],
+    /// As they were before the call.
+    pub lists: &'a Lists,
+    /// The row that a close left when all others were in use, as long as they are.
+    pub freed: Option<usize>,
+}
+
+pub struct Tally {
+    pub calls: u64,
+    /// Refusals by number.
+    refused: BTreeMap<u8, u64>,
+    /// Refusals of a bad record by number, where 29 would have applied too.
+    full: BTreeMap<u8, u64>,
+    /// Refusals 25 by the number that would have come next.
+    behind: BTreeMap<u8, u64>,
+    /// Refusals of tables of another length, by their length.
+    lengths: BTreeMap<usize, u64>,
+    sights: BTreeMap<&'static str, u64>,
+    /// Damage by kind, at the first row, at one between and at the last.
+    damage: [[u64; 3]; KINDS.len()],
+}
+
+fn none<T: Copy + Ord, const N: usize>(names: [T; N]) -> BTreeMap<T, u64> {
+    names.into_iter().map(|name| (name, 0)).collect()
+}
+
+/// Counts a name that is among those that have to be seen.
+fn count<T: Ord>(counts: &mut BTreeMap<T, u64>, name: T) {
+    *counts.get_mut(&name).expect("a name of the list") += 1;
+}
+
+impl Tally {
+    pub fn new() -> Tally {
+        Tally {
+            calls: 0,
+            refused: none(REFUSALS),
+            full: none(BAD_RECORD),
+            behind: none(BEHIND_25),
+            lengths: none(LENGTHS),
+            sights: none(SIGHTS),
+            damage: [[0; 3]; KINDS.len()],
+        }
+    }
+
+    pub fn refused(&mut self, number: u8) {
+        count(&mut self.refused, number);
+    }
+
+    pub fn refused_on_full(&mut self, number: u8) {
+        count(&mut self.full, number);
+    }
+
+    pub fn refused_before(&mut self, number: u8) {
+        count(&mut self.behind, number);
+    }
+
+    pub fn lent(&mut self, rows: usize) {
+        count(&mut self.lengths, rows);
+    }
+
+    pub fn damaged(&mut self, kind: usize, row: usize) {
+        let place = match row {
+            0 => 0,
+            LAST => 2,
+            _ => 1,
+        };
+        self.damage[kind][place] += 1;
+    }
+
+    fn see(&mut self, holds: bool, name: &'static str) {
+        if holds {
+            count(&mut self.sights, name);
+        }
+    }
+
+    pub fn accepted(&mut self, seen: &Seen) {
+        match seen.call {
+            Call::Note(record) => self.noted(seen, record.number.0, record.temperature),
+            Call::Close(batch) => self.closed(seen, batch),
+            Call::Figures(batch) => self.asked(seen, batch),
+        }
+    }
+
+    fn noted(&mut self, seen: &Seen, batch: u32, temperature: i16) {
+        self.see(temperature == -400, "note: a temperature of -400");
+        self.see(temperature == 1200, "note: a temperature of 1200");
+        self.see(batch == u32::MAX, "note: batch 4294967295");
+        match row_of(seen.before, batch) {
+            Some(at) => self.noted_more(seen, at),
+            None => self.noted_first(seen, row_of(seen.after, batch)),
+        }
+    }
+
+    fn noted_first(&mut self, seen: &Seen, at: Option<usize>) {
+        let behind = at.map_or(&[][..], |at| &seen.before[at + 1..]);
+        let empty_behind = behind.iter().any(|row| row.batch == 0);
+        let in_use_behind = behind.iter().any(|row| row.batch != 0);
+        self.see(true, "note: a first reading");
+        self.see(empty_behind && in_use_behind, "note: of several empty rows the lowest, with rows in use behind it");
+        self.see(at.is_some_and(between) && at == seen.freed, "note: the row that a close of a full table left, between others");
+    }
+
+    fn noted_more(&mut self, seen: &Seen, at: usize) {
+        let (row, after) = (&seen.before[at], &seen.after[at]);
+        let full = row.count as usize == READINGS;
+        let oldest = row.readings[0];
+        self.see(row_of(seen.before, 0).is_some_and(|empty| empty < at), "note: a row that stands behind an empty row");
+        self.see(row.count as usize == READINGS - 1, "note: a 24th reading");
+        self.see(full, "note: the oldest reading makes way");
+        self.see(full && after.readings.iter().all(|&reading| oldest < reading), "note: the lowest reading makes way");
+        self.see(full && after.readings.iter().all(|&reading| oldest > reading), "note: the highest reading makes way");
+    }
+
+    fn closed(&mut self, seen: &Seen, batch: u32) {
+        let at = if batch == 0 { None } else { row_of(seen.before, batch) };
+        self.see(at == Some(0), "close: the first row");
+        self.see(at.is_some_and(between), "close: a row between others");
+        self.see(at == Some(LAST), "close: the last row");
+        self.see(at.is_none(), "close: a batch that has no row");
+        self.see(batch == 0, "close: batch 0");
+    }
+
+    fn asked(&mut self, seen: &Seen, batch: u32) {
+        let readings = seen.lists.length(batch);
+        self.see(readings > 0, "figures: of a batch with a row");
+        self.see(readings >= 1000, "figures: after a thousand readings since the last close");
+        self.see(readings == 0, "figures: none");
+        self.see(readings == 0 && seen.lists.was_closed(batch), "figures: none, after a close");
+        self.see(batch == 0, "figures: none, batch 0");
+    }
+
+    pub fn print(&self) {
+        println!("{} calls", self.calls);
+        println!("refused: {}", listed(&self.refused));
+        println!("refused for a bad record where 29 applies too: {}", listed(&self.full));
+        println!("refused with 25 before: {}", listed(&self.behind));
+        println!("refused for the number of rows: {}", listed(&self.lengths));
+        for (name, times) in &self.sights {
+            println!("{times:8} {name}");
+        }
+        println!("damage at the first row, between, at the last:");
+        for (kind, [first, between, last]) in KINDS.iter().zip(&self.damage) {
+            println!("{first:8} {between:8} {last:8} {}", kind.name);
+        }
+    }
+
+    /// What has to be seen and never was.
+    pub fn missing(&self) -> Vec<String> {
+        let mut missing = never("refusal ", &self.refused);
+        missing.extend(never("29 behind ", &self.full));
+        missing.extend(never("25 before ", &self.behind));
+        missing.extend(never("rows lent: ", &self.lengths));
+        missing.extend(never("", &self.sights));
+        for (kind, places) in KINDS.iter().zip(&self.damage) {
+            let named = ["first row", "a row between", "last row"].into_iter().zip(places);
+            missing.extend(named.filter(|(_, times)| **times == 0).map(|(place, _)| format!("{}: {place}", kind.name)));
+        }
+        missing
+    }
+}
+
+/// The row of a batch, or the lowest empty row for 0.
+fn row_of(table: &[Row], batch: u32) -> Option<usize> {
+    table.iter().position(|row| row.batch == batch)
+}
+
+fn between(at: usize) -> bool {
+    (1..LAST).contains(&at)
+}
+
+fn listed<T: Display>(counts: &BTreeMap<T, u64>) -> String {
+    let words: Vec<String> = counts.iter().map(|(name, times)| format!("{name}:{times}")).collect();
+    words.join(" ")
+}
+
+fn never<T: Display>(what: &str, counts: &BTreeMap<T, u64>) -> Vec<String> {
+    let never = counts.iter().filter(|(_, times)| **times == 0);
+    never.map(|(name, _)| format!("{what}{name}")).collect()
+}
