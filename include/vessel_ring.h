@@ -12,6 +12,7 @@
        vessel_ring_send(&ring, 0, record);
        vessel_ring_enter(&ring, 0);                      the traffic: at every node, again and again
        struct vessel_delivery d = vessel_ring_move(&ring, 0);
+       struct vessel_dispatched all = vessel_ring_dispatch(&ring, 100);   or this, which makes these calls itself, in rounds
        vessel_ring_withdraw(&ring, 0);                   a task that gives up, while its request still waits to enter
 
    Beside it, where the temperatures of the batches are wanted, keep a table of rows, which begins as zeros, and lend it to its own calls:
@@ -53,7 +54,7 @@ extern "C" {
 #define VESSEL_HISTORY_ROWS 128 /* of a history, no more and no fewer */
 #define VESSEL_READINGS 24      /* of a row of it */
 #define VESSEL_LINE_ROOM 160    /* room for any line of a listing */
-#define VESSEL_STACK 32768      /* 23,736 bytes were measured, in a move */
+#define VESSEL_STACK 32768      /* some 25,100 bytes were measured, in the dispatcher */
 
 /* The refusals. Document 01 has the order in which each call tests them; docs/REFUSALS.md has it as a table. */
 enum vessel_refusal {
@@ -133,6 +134,16 @@ struct vessel_delivery {
     uint8_t delivered;
     uint8_t channel;
     struct vessel_record record;
+};
+
+/* What the dispatcher answers. Delivery i, from 0 and in the order in which they came, was records[i] on channels[i]; no channel stands
+   there twice. Behind the last delivery both arrays are zero; where refused, all but `refusal` is. It has no padding. */
+struct vessel_dispatched {
+    uint16_t rounds; /* how many rounds were made */
+    uint8_t refusal;
+    uint8_t count;   /* how many deliveries there are */
+    uint8_t channels[VESSEL_CHANNELS];
+    struct vessel_record records[VESSEL_CHANNELS];
 };
 
 struct vessel_hops {
@@ -222,6 +233,11 @@ uint8_t vessel_ring_enter(struct vessel_ring *ring, uint8_t node);
    ready or sends the record offered back, and a response is delivered, which is the answer. Refusals: 25, 8, 16, 19, 20, 21. */
 struct vessel_delivery vessel_ring_move(struct vessel_ring *ring, uint8_t node);
 
+/* The dispatcher: runs the ring for at most so many rounds, and no longer than until no channel is asking or answering. A round tries an
+   entry and then a move at each node in turn, from node 0. Fewer rounds than were given say that nothing is left on the ring; with c
+   channels and n nodes, c * (2 * n + 2) rounds always leave nothing. Refusals: 25, 8. */
+struct vessel_dispatched vessel_ring_dispatch(struct vessel_ring *ring, uint16_t rounds);
+
 /* ---- a task that gives up */
 
 /* Takes a channel's request out of the receiver node's line, where it still stands there: the channel rests, and the task may ask again.
@@ -305,6 +321,13 @@ VESSEL_AT(vessel_delivery, refusal, 0);
 VESSEL_AT(vessel_delivery, delivered, 1);
 VESSEL_AT(vessel_delivery, channel, 2);
 VESSEL_AT(vessel_delivery, record, 4);
+
+VESSEL_HOLDS(sizeof(struct vessel_dispatched) == 2628);
+VESSEL_AT(vessel_dispatched, rounds, 0);
+VESSEL_AT(vessel_dispatched, refusal, 2);
+VESSEL_AT(vessel_dispatched, count, 3);
+VESSEL_AT(vessel_dispatched, channels, 4);
+VESSEL_AT(vessel_dispatched, records, 68);
 
 VESSEL_HOLDS(sizeof(struct vessel_hops) == 2);
 VESSEL_AT(vessel_hops, refusal, 0);

@@ -1,7 +1,9 @@
 //! bench ROUNDS TAPE...: the proved code against the second model, in one process, in turn, on the same tapes. Both make the test for a
 //! sound ring in every call. For each tape it prints the commands per second of both and the ratio, proved to model: the median of the
-//! rounds, and the lowest and highest tenth as the spread. A listing that differs stops the run. Then single calls (single.rs).
+//! rounds, and the lowest and highest tenth as the spread. A listing that differs stops the run. Then single calls (single.rs) and
+//! the dispatcher (dispatch.rs).
 
+mod dispatch;
 mod single;
 
 use second_model::listing;
@@ -92,5 +94,6 @@ fn main() -> ExitCode {
     for (nodes, channels) in [(1, 1), (1, 63), (4, 16), (16, 1), (16, 64)] {
         single::measure(nodes, channels, rounds);
     }
+    dispatch::measure_all(rounds);
     ExitCode::SUCCESS
 }

@@ -95,6 +95,53 @@ static void ring_fields(void)
     HOLDS(vessel_ring_is_sound(&ring) == 0);
 }
 
+/* Delivery i of the dispatcher's answer is the record that was sent on its channel. */
+static int is_delivery(const struct vessel_dispatched *answer, int i)
+{
+    struct vessel_record record = record_of(0x01020304u + answer->channels[i]);
+    return memcmp(&answer->records[i], &record, sizeof record) == 0;
+}
+
+/* 64 same-node channels on 16 nodes, their records sent and their requests in the buffers, where one slot is free. */
+static struct vessel_ring packed_ring(void)
+{
+    struct vessel_ring ring = vessel_ring_fresh();
+    int i;
+    for (i = 0; i < VESSEL_NODES; i++)
+        HOLDS(vessel_ring_add_node(&ring, i == 0 ? 5 : 4) == VESSEL_DONE);
+    for (i = 0; i < VESSEL_CHANNELS; i++)
+        HOLDS(vessel_ring_add_channel(&ring, (uint8_t)(i / 4), (uint8_t)(i / 4)) == VESSEL_DONE);
+    HOLDS(vessel_ring_dispatch(&ring, 1).refusal == VESSEL_NOT_STARTED && vessel_ring_start(&ring) == VESSEL_DONE);
+    for (i = 0; i < VESSEL_CHANNELS; i++) {
+        HOLDS(vessel_ring_send(&ring, (uint8_t)i, record_of(0x01020304u + (uint32_t)i)) == VESSEL_DONE);
+        HOLDS(vessel_ring_receive(&ring, (uint8_t)i) == VESSEL_DONE && vessel_ring_enter(&ring, (uint8_t)(i / 4)) == VESSEL_DONE);
+    }
+    return ring;
+}
+
+static void dispatched_fields(void)
+{
+    struct vessel_ring ring = packed_ring();
+    struct vessel_dispatched d = vessel_ring_dispatch(&ring, 0x106);
+    uint64_t met = 0;
+    int i;
+    HOLDS(d.refusal == 0 && d.rounds == 0x106 && d.count == 0 && d.channels[0] == 0 && d.records[0].batch == 0);
+    d = vessel_ring_dispatch(&ring, 0xFFFF); /* 0x6C6 rounds in all, as tests/dispatch makes them singly */
+    HOLDS(d.refusal == 0 && d.rounds == 0x6C6 - 0x106 && d.count == 64 && ring.deliveries == 64);
+    for (i = 0; i < VESSEL_CHANNELS; i++) {
+        HOLDS(d.channels[i] < 64 && is_delivery(&d, i));
+        met |= (uint64_t)1 << d.channels[i] % 64;
+    }
+    HOLDS(met == UINT64_MAX);
+    HOLDS(vessel_ring_send(&ring, 63, record_of(0x01020304u + 63)) == VESSEL_DONE && vessel_ring_receive(&ring, 63) == VESSEL_DONE);
+    d = vessel_ring_dispatch(&ring, 0xFFFF);
+    HOLDS(d.refusal == 0 && d.count == 1 && d.channels[0] == 63 && is_delivery(&d, 0));
+    HOLDS(d.channels[1] == 0 && d.channels[63] == 0 && d.records[1].batch == 0 && d.records[63].batch == 0);
+    ring.spare = 1;
+    d = vessel_ring_dispatch(&ring, 3);
+    HOLDS(d.refusal == VESSEL_UNSOUND_RING && d.rounds == 0 && d.count == 0 && d.channels[0] == 0 && d.records[0].batch == 0);
+}
+
 static void command_fields(void)
 {
     static uint8_t tape[300];
@@ -158,6 +205,7 @@ static void row_fields(void)
 int main(void)
 {
     ring_fields();
+    dispatched_fields();
     command_fields();
     row_fields();
     return wrong != 0;

@@ -1,5 +1,6 @@
 /* The two-node ring of document 01, call by call: the plan, one record from node 1 to node 0, its temperature noted, and what a refusal, a
-   damaged ring and a damaged history look like. Prints a line for each call, as the tape program does for each command. */
+   damaged ring and a damaged history look like. Prints a line for each call, as the tape program does for each command. Then a second
+   record goes the same way by the dispatcher. */
 #include "vessel_ring.h"
 
 #include <stdio.h>
@@ -34,18 +35,21 @@ static void note(struct vessel_record record)
     printf("  noted %u: batch %u lowest %d highest %d sum %d\n", refusal, record.batch, figures.lowest, figures.highest, figures.sum);
 }
 
+static void delivered(uint8_t channel, const struct vessel_record *record)
+{
+    printf(" delivered %u %u %u %d %u", channel, record->batch, record->vessel, record->temperature, record->name_length);
+    if (record->name_length > 0)
+        printf(" %.*s", record->name_length, (const char *)record->name);
+}
+
 static void moved(struct vessel_delivery answer)
 {
-    const struct vessel_record *record = &answer.record;
     line(0x23, answer.refusal);
-    if (answer.delivered) {
-        printf(" delivered %u %u %u %d %u", answer.channel, record->batch, record->vessel, record->temperature, record->name_length);
-        if (record->name_length > 0)
-            printf(" %.*s", record->name_length, (const char *)record->name);
-    }
+    if (answer.delivered)
+        delivered(answer.channel, &answer.record);
     printf("\n");
     if (answer.delivered)
-        note(*record);
+        note(answer.record);
 }
 
 /* A task that asks for a record while its last request is still under way is refused, and asks again later. */
@@ -57,6 +61,22 @@ static void ask(uint8_t channel)
         struct vessel_hops left = vessel_ring_hops_left(&ring, channel);
         struct vessel_waiting waiting = vessel_ring_waiting_set(&ring, ring.receivers[channel]);
         printf("  under way: %u hops left, %u task waits, set %llx\n", left.hops, waiting.tasks, (unsigned long long)waiting.set);
+    }
+}
+
+/* Entries and moves in one call: it runs the ring until nothing is on it, and hands over all that was delivered. c * (2 * n + 2) rounds are
+   always enough; a controller that has other work to do gives fewer, and calls again later. */
+static void dispatch(void)
+{
+    uint16_t enough = (uint16_t)(ring.channel_count * (2 * ring.node_count + 2));
+    struct vessel_dispatched answer = vessel_ring_dispatch(&ring, enough);
+    int i;
+    printf("dispatched %u: %u of %u rounds, %u delivery\n", answer.refusal, answer.rounds, enough, answer.count);
+    for (i = 0; i < answer.count; i++) {
+        printf(" ");
+        delivered(answer.channels[i], &answer.records[i]);
+        printf("\n");
+        note(answer.records[i]);
     }
 }
 
@@ -77,6 +97,7 @@ static void damaged(void)
     printf(" %u", vessel_ring_send(&copy, 0, none));
     printf(" %u", vessel_ring_enter(&copy, 0));
     printf(" %u", vessel_ring_move(&copy, 0).refusal);
+    printf(" %u", vessel_ring_dispatch(&copy, 1).refusal);
     printf(" %u", vessel_ring_withdraw(&copy, 0));
     printf(" %u", vessel_ring_hops_left(&copy, 0).refusal);
     printf(" %u", vessel_ring_waiting_set(&copy, 0).refusal);
@@ -150,6 +171,10 @@ int main(void)
     moved(vessel_ring_move(&ring, 1));
     moved(vessel_ring_move(&ring, 1));
     printf("end %u %u\n", accepted, refused);
+    record.temperature = 634;
+    vessel_ring_send(&ring, 0, record);
+    vessel_ring_receive(&ring, 0);
+    dispatch();
     damaged();
     damaged_history();
     taped();

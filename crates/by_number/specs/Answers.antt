@@ -7,7 +7,11 @@ use Rattle.network.specs.declared.Answer.the-variants.{Done, Delivered, Hops, W
 use Rattle.network.specs.declared.Reply.{Reply}
 use Rattle.network.specs.declared.Ring.{Ring}
 use Rattle.network.specs.declared.Step.{Step}
+use Rattle.network.specs.declared.Dispatched.{Dispatched}
+use Rattle.network.specs.declared.DispatchStep.{DispatchStep}
+use Rattle.network.specs.Dispatcher.{dispatchRing, answerOf}
 use Rattle.network.specs.Runs.{Call}
+use Rattle.dispatch.specs.declared.RingRun.{RingRun}
 use Rattle.site.specs.InPlace.{replyTo}
 use Rattle.by_number.specs.declared.Delivery.{Delivery}
 use Rattle.by_number.specs.declared.HopsLeft.{HopsLeft}
@@ -15,7 +19,9 @@ use Rattle.by_number.specs.declared.Waiting as C
 use Rattle.by_number.specs.declared.Said.{Said}
 use Rattle.by_number.specs.declared.Told.{Told}
 use Rattle.by_number.specs.declared.Moved.{Moved}
-use Rattle.by_number.specs.Records.{recordFor}
+use Rattle.by_number.specs.declared.Rounds.{Rounds}
+use Rattle.by_number.specs.declared.Ran.{Ran}
+use Rattle.by_number.specs.Records.{recordFor, recordsFor, recordsIn}
 
 abbrev pub numbers : ℕ → ℕ → ℕ → ℕ → ℕ → Said
 numbers n d k h w = record { refusal = n; delivered = d; channel = k; hops = h; set = w }
@@ -48,6 +54,35 @@ deliveryTo a ring = deliveryIn (replyTo a ring)
 
 abbrev pub movedOf : Step → Moved
 movedOf s = record { ring = s .ring; delivery = deliveryIn (s .reply) }
+
+-- what the dispatcher answers, and the ring beside it
+abbrev pub roundsIn : Dispatched → Rounds
+roundsIn d = record {
+  rounds = d .rounds;
+  refusal = numbersIn (d .answer) .refusal;
+  count = d .count;
+  channels = d .channels;
+  records = recordsFor (d .records);
+}
+
+abbrev pub roundsTo : ℕ → Ring → Rounds
+roundsTo given ring = roundsIn (answerOf (dispatchRing given ring))
+
+abbrev pub ranOf : DispatchStep → Ran
+ranOf s = record { ring = s .ring; rounds = roundsIn (s .dispatched) }
+
+-- the same of a run whose records are bytes
+abbrev pub ranIn : RingRun → Ran
+ranIn run = record {
+  ring = run .ring;
+  rounds = record {
+    rounds = run .rounds;
+    refusal = numbersIn (run .answer) .refusal;
+    count = run .count;
+    channels = run .channels;
+    records = recordsIn (run .records) (run .count);
+  };
+}
 
 abbrev pub hopsLeftIn : Answer → HopsLeft
 hopsLeftIn a = record { refusal = numbersIn a .refusal; hops = numbersIn a .hops }

@@ -1,13 +1,16 @@
 // The ring calls and the tape's commands with plain numbers in and out, by value: what C sees. Here are the structs for C and the ring
-// calls, each made by value (`by_value`) and its answer told in numbers; `commands` has the tape's commands, `records` the batch record
-// and `tables` what the history says. `vessel_ring` exports them and lends a ring or a table to the calls.
+// calls, each made by value (`by_value`; for the dispatcher `dispatch`) and its answer told in numbers; `commands` has the tape's
+// commands, `records` the batch record and `tables` what the history says. `vessel_ring` exports them and lends a ring or a table to the
+// calls.
 pub mod commands;
 pub mod records;
 pub mod tables;
 
 use crate::records::record_for;
 use crate::records::record_of;
+use crate::records::records_in;
 use batch::BatchRecord;
+use dispatch::RingRun;
 use network::Answer;
 use network::Ring;
 use network::RingCall;
@@ -15,13 +18,15 @@ use network::Step;
 use numbers::ChannelNo;
 use numbers::NodeNo;
 ghost use mathlib.Core.Path.{_≡_};
+ghost use Prim.Native.Nat.{_≤_};
 ghost use Rattle.network.specs.Answers.{callOf};
 ghost use Rattle.network.specs.Counting.{one};
-ghost use Rattle.network.specs.Layout.{soundRing, stepRing};
+ghost use Rattle.network.specs.Dispatcher.{dispatchRing, dispatchStepOf};
+ghost use Rattle.network.specs.Layout.{channelRoom, soundRing, stepRing};
 ghost use Rattle.network.specs.Network.{nodeNo, channelNo};
 ghost use Rattle.network.specs.Runs;
 ghost use Rattle.site.specs.InPlace.{answerTo};
-ghost use Rattle.by_number.specs.Answers.{numbersIn, numbers, toldOf, movedOf, hopsLeftIn, waitingIn};
+ghost use Rattle.by_number.specs.Answers.{numbersIn, numbers, toldOf, movedOf, ranOf, ranIn, hopsLeftIn, waitingIn};
 ghost use Rattle.by_number.specs.Records.{recordOf};
 
 // A batch record for C, its fields in an order that leaves no padding.
@@ -41,6 +46,17 @@ pub struct Delivery {
     pub delivered: u8,
     pub channel: u8,
     pub record: Record,
+}
+
+// What the dispatcher answers: the rounds that it made, and its deliveries in order, each with its channel and its record. What there is
+// not is zero.
+#[repr(C)]
+pub struct Rounds {
+    pub rounds: u16,
+    pub refusal: u8,
+    pub count: u8,
+    pub channels: [u8; 64],
+    pub records: [Record; 64],
 }
 
 #[repr(C)]
@@ -104,6 +120,12 @@ pub struct Moved {
     pub delivery: Delivery,
 }
 
+// The ring after a call of the dispatcher, and what it answers.
+pub struct Ran {
+    pub ring: Ring,
+    pub rounds: Rounds,
+}
+
 // All that an answer can say, in numbers; what it does not say is 0.
 struct Said {
     refusal: u8,
@@ -163,6 +185,26 @@ fn delivery_in(s: Step) -> Moved
         record,
     };
     Moved { ring, delivery }
+}
+
+fn rounds_in(run: RingRun) -> Ran
+    requires { ⌜ run .count ≤ channelRoom ⌝ }
+    ensures { λ r. ⌜ r ≡ ranIn run ⌝ }
+{
+    let ring = run.ring;
+    let answer = run.answer;
+    let said = numbers_in(answer);
+    let channels = run.channels;
+    let bytes = run.records;
+    let records = records_in(&bytes, run.count);
+    let rounds = Rounds {
+        rounds: run.rounds,
+        refusal: said.refusal,
+        count: run.count,
+        channels,
+        records,
+    };
+    Ran { ring, rounds }
 }
 
 // Any call of which C is told no more than the refusal; the record is that of a send.
@@ -231,6 +273,12 @@ pub fn withdraw(ring: Ring, channel: u8) -> Told
         RingCall::Withdraw(ChannelNo(channel)),
         BatchRecord::none(),
     )
+}
+
+pub fn dispatch(ring: Ring, rounds: u16) -> Ran
+    ensures { λ r. ⌜ r ≡ ranOf (dispatchStepOf ring (dispatchRing rounds ring)) ⌝ }
+{
+    rounds_in(dispatch::run_on(ring, rounds))
 }
 
 pub fn hops_left(ring: Ring, channel: u8) -> HopsLeft

@@ -3,7 +3,10 @@
 // calls are `perform` with a name. A ring of a site, which is lent, is called through these (`site`).
 use batch::BatchRecord;
 use calls;
+use dispatch::RingRun;
 use network::Answer;
+use network::DispatchStep;
+use network::Dispatched;
 use network::Ring;
 use network::RingCall;
 use network::Step;
@@ -11,9 +14,12 @@ use numbers::ChannelNo;
 use numbers::NodeNo;
 use questions::Tasks;
 ghost use mathlib.Core.Path.{_≡_};
+ghost use Prim.Native.Nat.{_≤_};
 ghost use Rattle.network.specs.Answers.{callOf, stepOf, replyOf};
-ghost use Rattle.network.specs.Layout.{callRing};
+ghost use Rattle.network.specs.Dispatcher.{dispatchRing, dispatchStepOf};
+ghost use Rattle.network.specs.Layout.{channelRoom, callRing};
 ghost use Rattle.network.specs.Runs;
+ghost use Rattle.by_value.specs.Told.{toldOf};
 ghost use Rattle.questions.specs.Tasks.{tasksTo, saidIn, tasksSaid};
 
 // The call, with the record of a send beside it: the ring after the call, and the reply.
@@ -104,6 +110,41 @@ pub fn withdraw(ring: Ring, channel: ChannelNo) -> Step
     ensures { λ r. ⌜ r ≡ stepOf ring (callRing (Runs.withdraw channel) ring) ⌝ }
 {
     perform(ring, RingCall::Withdraw(channel), BatchRecord::none())
+}
+
+// What the dispatcher says of its run: the records of its deliveries are read off their bytes.
+fn told(run: RingRun) -> DispatchStep
+    requires { ⌜ run .count ≤ channelRoom ⌝ }
+    ensures { λ r. ⌜ r ≡ toldOf run ⌝ }
+{
+    let none = BatchRecord::none();
+    let mut records = [none; 64];
+    let bytes = run.records;
+    let count = run.count as usize;
+    let mut i: usize = 0;
+    while i < count {
+        records[i] = dispatch::record_at(&bytes, i);
+        i += 1;
+    }
+    let answer = run.answer;
+    let channels = run.channels;
+    let dispatched = Dispatched {
+        answer,
+        rounds: run.rounds,
+        count: run.count,
+        channels,
+        records,
+    };
+    let ring = run.ring;
+    DispatchStep { ring, dispatched }
+}
+
+// Runs the ring for so many rounds, or until nothing is on it. A round tries an entry and then a move at every node, from node 0 on.
+pub fn dispatch(ring: Ring, rounds: u16) -> DispatchStep
+    ensures { λ r. ⌜ r ≡ dispatchStepOf ring (dispatchRing rounds ring) ⌝ }
+{
+    let run = dispatch::run_on(ring, rounds);
+    told(run)
 }
 
 // How many hops a channel's message, and the response to it, still have to go.

@@ -1,4 +1,5 @@
--- Lists: the ring of specs/, whose nodes and channels are lists; the test for a sound ring as facts, and each call as a step of the theory.
+-- Lists: the ring of specs/, whose nodes and channels are lists; the test for a sound ring as facts, and each call as a step of the
+-- theory; an entry or a move that is tried.
 pub mod Way
 pub mod Tables
 pub mod Clauses
@@ -6,3 +7,4 @@ pub mod Outcomes
 pub mod Accepted
 pub mod Before
 pub mod Bridge
+pub mod Tries

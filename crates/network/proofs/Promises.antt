@@ -1,10 +1,17 @@
--- Promises: what specs/ states of each call and of every run of calls, demand 3 of the ring, of the ring in memory and of code, the dummies,
--- the edges, the worked lists of withdrawals.
+-- Promises: what specs/ states of each call and of every run of calls, demand 3 of the ring, of the ring in memory and of code, the same of
+-- the dispatcher and of runs with it, the dummies, the edges, the worked lists of withdrawals and the worked rounds.
+pub mod Computed
 pub mod Run
 pub mod Machine
 pub mod Demand
+pub mod Tried
+pub mod Acts
+pub mod Dispatch
 pub mod Answers
 pub mod Promise
+pub mod DemandActs
+pub mod Dispatcher
 pub mod Dummies
 pub mod Edges
 pub mod Withdrawals
+pub mod Rounds

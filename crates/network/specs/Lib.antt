@@ -1,5 +1,6 @@
 -- The ring of document 01 in antt: what it is, when it is sound, what each call does, and what is promised of a run of calls.
--- Read in this order: Network, Sound with Way, Calls, Runs, Demand; then Layout, which says how a ring is held in memory, and Promise.
+-- Read in this order: Network, Sound with Way, Calls, Runs, Demand, Dispatch; then Layout, which says how a ring is held in memory, Promise
+-- and Dispatcher.
 pub mod Counting
 pub mod Network
 pub mod Sound
@@ -7,9 +8,12 @@ pub mod Way
 pub mod Calls
 pub mod Runs
 pub mod Demand
+pub mod Dispatch
 pub mod Layout
 pub mod Answers
 pub mod Promise
+pub mod Dispatcher
 pub mod Edges
 pub mod Withdrawals
+pub mod Rounds
 pub mod Dummies

@@ -170,3 +170,19 @@ pub struct HeadStep {
     pub head: Head,
     pub reply: Reply,
 }
+
+// What the dispatcher answers: `Done` or the refusal, how many rounds it made, and its deliveries in order. There are `count` of them, at
+// most one for each channel: the first was on the first of the channels with the first of the records. What there is not is zero.
+pub struct Dispatched {
+    pub answer: Answer,
+    pub rounds: u16,
+    pub count: u8,
+    pub channels: ByChannel,
+    pub records: [BatchRecord; CHANNELS],
+}
+
+// The ring after a call of the dispatcher, and what it answers.
+pub struct DispatchStep {
+    pub ring: Ring,
+    pub dispatched: Dispatched,
+}

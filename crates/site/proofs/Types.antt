@@ -1,11 +1,15 @@
--- The kinds (Params.antt of `lent`) of what the calls take and answer, and the step as a pair (Walk.antt) of a ring and a reply. Assumes
--- nothing.
+-- The kinds (Params.antt of `lent`) of what the calls take and answer, and the steps as pairs (Walk.antt) of a ring and what is answered.
+-- Assumes nothing.
 use mathlib.Core.Path.{refl}
 use denote.Struct.Laws as LL
 use Rattle.batch.proofs.BatchRecord as B
 use Rattle.batch.proofs.BatchRecord.Laws as B′
 use Rattle.network.proofs.Answer as A
 use Rattle.network.proofs.Answer.Laws as A′
+use Rattle.network.proofs.Dispatched as D
+use Rattle.network.proofs.Dispatched.Laws as D′
+use Rattle.network.proofs.DispatchStep as DS
+use Rattle.network.proofs.DispatchStep.Laws as DS′
 use Rattle.numbers.proofs.ChannelNo as C
 use Rattle.numbers.proofs.ChannelNo.Laws as C′
 use Rattle.numbers.proofs.NodeNo as N
@@ -51,4 +55,18 @@ step = record {
   shaped = refl;
   spelled = λ s. refl;
   parts = λ s fine. (LL.owed S.the-type S′.the-laws s _ fine .0, LL.owed S.the-type S′.the-laws s _ fine .1 .0);
+}
+
+abbrev pub dispatched : Kind
+dispatched = struct-kind D.the-type D′.the-laws D′.the-plain D′.the-copy
+
+abbrev pub dispatch-step : Paired dispatched
+dispatch-step = record {
+  kind = struct-kind DS.the-type DS′.the-laws DS′.the-plain DS′.the-copy;
+  name = DS.the-type .name;
+  ring-of = λ s. s .ring;
+  out-of = λ s. s .dispatched;
+  shaped = refl;
+  spelled = λ s. refl;
+  parts = λ s fine. (LL.owed DS.the-type DS′.the-laws s _ fine .0, LL.owed DS.the-type DS′.the-laws s _ fine .1 .0);
 }

@@ -4,7 +4,8 @@
 // - while it lays the plan, `add_node`, `add_channel` and then `start`, each of which replies `Done`;
 // - for its tasks, `receive`, `send` and `withdraw`, which reply `Done`;
 // - to keep the messages going, `enter` and `move_on`, at any node it likes. They reply `Done`; a move that delivers replies
-//   `Delivered` with the channel, and the record stands beside it in the reply;
+//   `Delivered` with the channel, and the record stands beside it in the reply. Or, instead of these, `dispatch`, which makes rounds of
+//   them until nothing is on the ring, and answers with all their deliveries;
 // - to look, `hops_left`, which answers `Hops`, `waiting_set`, which answers `Waiting`, and `tasks_waiting`, which answers how many tasks
 //   of a node wait: the ones of that set. They only read the ring.
 //
@@ -13,6 +14,7 @@
 // reply.
 use batch::BatchRecord;
 use network::Answer;
+use network::Dispatched;
 use network::Reply;
 use network::Ring;
 use network::RingCall;
@@ -21,6 +23,8 @@ use numbers::NodeNo;
 use questions::Tasks;
 ghost use mathlib.Core.Path.{_≡_};
 ghost use Rattle.network.specs.Answers.{callOf};
+ghost use Rattle.network.specs.Dispatch.{afterDispatch};
+ghost use Rattle.network.specs.Dispatcher.{dispatchRing, answerOf};
 ghost use Rattle.network.specs.Runs;
 ghost use Rattle.questions.specs.Tasks.{tasksTo, saidIn, tasksSaid};
 ghost use Rattle.site.specs.InPlace.{ringAfter, replyTo, answerTo};
@@ -103,6 +107,16 @@ pub fn withdraw(ring: &mut Ring, channel: ChannelNo) -> Reply
     let s = by_value::withdraw(*ring, channel);
     *ring = s.ring;
     s.reply
+}
+
+// Runs the ring for so many rounds, or until nothing is on it. A round tries an entry and then a move at every node, from node 0 on.
+pub fn dispatch(ring: &mut Ring, rounds: u16) -> Dispatched
+    ensures { λ r. ⌜ (now (ring .exit) ≡ afterDispatch (now (ring .entry)) (dispatchRing rounds (now (ring .entry))))
+        × (r ≡ answerOf (dispatchRing rounds (now (ring .entry)))) ⌝ }
+{
+    let s = by_value::dispatch(*ring, rounds);
+    *ring = s.ring;
+    s.dispatched
 }
 
 // How many hops a channel's message, and the response to it, still have to go.

@@ -29,9 +29,9 @@ use Rattle.network.specs.Layout.{ringLimits, nodeRoom, channelRoom, rowLength, 
 use Rattle.network.specs.Sound.{oneMore}
 use Rattle.network.proofs.Ground.Splits.{by-list, by-phase, by-same, both-ways}
 use Rattle.network.proofs.Ground.Counting.{count-same, weigh-cons}
-use Rattle.network.proofs.Lists.Tables.{netOf, stateOf}
+use Rattle.network.proofs.Lists.Tables.{netOf}
 use Rattle.network.proofs.Lists.Clauses.{sound-started}
-use Rattle.network.proofs.Lists.Accepted.{first-moving}
+use Rattle.network.proofs.Theory.Kept.{first-moving}
 use Rattle.network.proofs.Memory.Held.{Fits, OfferFits, CarriedFits, HeldNode, HeldChannel, SoundRing, record-kept, held-node}
 use Rattle.network.proofs.Memory.Changes.{fits-with-node, fits-with-channel}
 use Rattle.updates.specs.Flat.{appended, cutAt, recorded, capacityAt, usedAt, waitingAt, markAt, phaseAt, offeredAt, senderAt, receiverAt, targetBy, markAfter, leftHead, phasedHead, offeredHead, left, passed, phased, unoffered, responded, handedOut}
@@ -102,7 +102,7 @@ module _ {ring : Ring} {p cell : ℕ} (h : Leaves ring p cell) where
         buffer-is = e;
         cell-is = cell-is;
         known = known .facts .each-node p (node-there at) .in-buffer (k .0) standing .0;
-        moves = first-moving (netOf σ) (stateOf σ) t p (k .0) (numbersOf ks) (node-there at) (ap numbersOf e);
+        moves = first-moving (netOf σ) t p (k .0) (numbersOf ks) (node-there at) (ap numbersOf e);
       })
 
   abbrev k : ℕ

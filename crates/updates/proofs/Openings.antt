@@ -107,7 +107,7 @@ module _ (ring : Ring) (ok : soundRing ring ≡ true) where
   abbrev numbers : Held ring σ
   numbers = sound-ring ring ok .holds
 
-  begun-is : begun (ring .head .started) ≡ σ .started
+  pub begun-is : begun (ring .head .started) ≡ σ .started
   begun-is = ap begun (numbers .started) ∙ by-test (σ .started) (λ t. rw t) (λ t. rw t)
 
   plan-refused : (o : Outcome Network) {r : Refusal} → beforeStart (ring .head .started) ≡ Refused r →

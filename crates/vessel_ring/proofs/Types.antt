@@ -14,6 +14,10 @@ use Rattle.by_number.proofs.Waiting as W
 use Rattle.by_number.proofs.Waiting.Laws as W′
 use Rattle.by_number.proofs.BatchFigures as F
 use Rattle.by_number.proofs.BatchFigures.Laws as F′
+use Rattle.by_number.proofs.Rounds as O
+use Rattle.by_number.proofs.Rounds.Laws as O′
+use Rattle.by_number.proofs.Ran as A
+use Rattle.by_number.proofs.Ran.Laws as A′
 use Rattle.by_number.proofs.Told as T
 use Rattle.by_number.proofs.Told.Laws as T′
 use Rattle.by_number.proofs.Moved as M
@@ -54,4 +58,18 @@ moved = record {
   shaped = refl;
   spelled = λ s. refl;
   parts = λ s fine. (LL.owed M.the-type M′.the-laws s _ fine .0, LL.owed M.the-type M′.the-laws s _ fine .1 .0);
+}
+
+abbrev pub rounds : Kind
+rounds = struct-kind O.the-type O′.the-laws O′.the-plain O′.the-copy
+
+abbrev pub ran : Paired rounds
+ran = record {
+  kind = struct-kind A.the-type A′.the-laws A′.the-plain A′.the-copy;
+  name = A.the-type .name;
+  ring-of = λ s. s .ring;
+  out-of = λ s. s .rounds;
+  shaped = refl;
+  spelled = λ s. refl;
+  parts = λ s fine. (LL.owed A.the-type A′.the-laws s _ fine .0, LL.owed A.the-type A′.the-laws s _ fine .1 .0);
 }

@@ -20,6 +20,7 @@ use by_number::Delivery;
 use by_number::HopsLeft;
 use by_number::Reading;
 use by_number::Record;
+use by_number::Rounds;
 use by_number::Waiting;
 use by_number::Writing;
 use by_number::commands;
@@ -31,12 +32,14 @@ use runner::Session;
 ghost use mathlib.Core.Path.{_≡_};
 ghost use Rattle.history.specs.History as History;
 ghost use Rattle.network.specs.Counting.{one};
+ghost use Rattle.network.specs.Dispatch.{afterDispatch};
+ghost use Rattle.network.specs.Dispatcher.{dispatchRing};
 ghost use Rattle.network.specs.Layout.{freshRing, soundRing};
 ghost use Rattle.network.specs.Network.{nodeNo, channelNo};
 ghost use Rattle.network.specs.Runs;
 ghost use Rattle.site.specs.InPlace.{ringAfter, answerTo};
 ghost use Rattle.tape.specs.Tape.{readAt};
-ghost use Rattle.by_number.specs.Answers.{numberTo, deliveryTo, hopsLeftIn, waitingIn};
+ghost use Rattle.by_number.specs.Answers.{numberTo, deliveryTo, roundsTo, hopsLeftIn, waitingIn};
 ghost use Rattle.by_number.specs.Commands.{readingIn, writingTo, afterWriting};
 ghost use Rattle.vessel_ring.specs.Listed.{Listed};
 ghost use Rattle.by_number.specs.Records.{recordOf};
@@ -127,6 +130,16 @@ pub extern "C" fn vessel_ring_withdraw(ring: &mut Ring, channel: u8) -> u8
     let s = by_number::withdraw(*ring, channel);
     *ring = s.ring;
     s.refusal
+}
+
+#[no_mangle]
+pub extern "C" fn vessel_ring_dispatch(ring: &mut Ring, rounds: u16) -> Rounds
+    ensures { λ r. ⌜ (now (ring .exit) ≡ afterDispatch (now (ring .entry)) (dispatchRing rounds (now (ring .entry))))
+        × (r ≡ roundsTo rounds (now (ring .entry))) ⌝ }
+{
+    let s = by_number::dispatch(*ring, rounds);
+    *ring = s.ring;
+    s.rounds
 }
 
 #[no_mangle]

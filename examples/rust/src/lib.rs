@@ -56,6 +56,23 @@ pub struct Delivery {
 }
 
 #[repr(C)]
+#[derive(Clone, Copy, PartialEq, Eq, Debug)]
+pub struct Dispatched {
+    pub rounds: u16,
+    pub refusal: u8,
+    pub count: u8,
+    pub channels: [u8; CHANNELS],
+    pub records: [Record; CHANNELS],
+}
+
+/// By hand: the standard library has it for arrays of up to 32.
+impl Default for Dispatched {
+    fn default() -> Dispatched {
+        Dispatched { rounds: 0, refusal: 0, count: 0, channels: [0; CHANNELS], records: [Record::default(); CHANNELS] }
+    }
+}
+
+#[repr(C)]
 #[derive(Clone, Copy, PartialEq, Eq, Debug, Default)]
 pub struct Hops {
     pub refusal: u8,
@@ -118,6 +135,7 @@ const _: () = {
     assert!(size_of::<Ring>() == 7496 && offset_of!(Ring, carried) == 4936);
     assert!(size_of::<Record>() == 40 && offset_of!(Record, temperature) == 6);
     assert!(size_of::<Delivery>() == 44 && offset_of!(Delivery, record) == 4);
+    assert!(size_of::<Dispatched>() == 2628 && offset_of!(Dispatched, count) == 3 && offset_of!(Dispatched, records) == 68);
     assert!(size_of::<Hops>() == 2 && size_of::<Waiting>() == 16 && offset_of!(Waiting, refusal) == 12);
     assert!(size_of::<Row>() == 56 && offset_of!(Row, readings) == 8);
     assert!(size_of::<Figures>() == 12 && offset_of!(Figures, highest) == 6 && offset_of!(Figures, held) == 9);
@@ -127,7 +145,7 @@ const _: () = {
 };
 
 mod c {
-    use super::{Command, Delivery, Figures, Hops, Reading, Record, Ring, Row, Waiting, Writing};
+    use super::{Command, Delivery, Dispatched, Figures, Hops, Reading, Record, Ring, Row, Waiting, Writing};
 
     extern "C" {
         pub fn vessel_ring_fresh() -> Ring;
@@ -138,6 +156,7 @@ mod c {
         pub fn vessel_ring_send(ring: &mut Ring, channel: u8, record: Record) -> u8;
         pub fn vessel_ring_enter(ring: &mut Ring, node: u8) -> u8;
         pub fn vessel_ring_move(ring: &mut Ring, node: u8) -> Delivery;
+        pub fn vessel_ring_dispatch(ring: &mut Ring, rounds: u16) -> Dispatched;
         pub fn vessel_ring_withdraw(ring: &mut Ring, channel: u8) -> u8;
         pub fn vessel_ring_hops_left(ring: &Ring, channel: u8) -> Hops;
         pub fn vessel_ring_waiting_set(ring: &Ring, node: u8) -> Waiting;
@@ -193,6 +212,10 @@ impl Ring {
         unsafe { c::vessel_ring_move(self, node) }
     }
 
+    pub fn dispatch(&mut self, rounds: u16) -> Dispatched {
+        unsafe { c::vessel_ring_dispatch(self, rounds) }
+    }
+
     pub fn withdraw(&mut self, channel: u8) -> u8 {
         unsafe { c::vessel_ring_withdraw(self, channel) }
     }
@@ -207,6 +230,13 @@ impl Ring {
 
     pub fn is_sound(&self) -> bool {
         unsafe { c::vessel_ring_is_sound(self) == 1 }
+    }
+}
+
+impl Dispatched {
+    /// Channel and record of each delivery, in order.
+    pub fn deliveries(&self) -> impl Iterator<Item = (u8, Record)> + '_ {
+        self.channels.iter().copied().zip(self.records).take(self.count.into())
     }
 }
 

@@ -33,11 +33,7 @@ impl Listing {
     fn moved(&mut self, answer: Delivery) {
         self.begin(0x23, answer.refusal);
         if answer.delivered == 1 {
-            let Record { batch, vessel, temperature, name_length, name } = answer.record;
-            print!(" delivered {} {batch} {vessel} {temperature} {name_length}", answer.channel);
-            if name_length > 0 {
-                print!(" {}", String::from_utf8_lossy(&name[..name_length.into()]));
-            }
+            delivered(answer.channel, answer.record);
         }
         println!();
         if answer.delivered == 1 {
@@ -53,6 +49,20 @@ impl Listing {
         println!("  noted {refusal}: batch {batch} lowest {} highest {} sum {}", figures.lowest, figures.highest, figures.sum);
     }
 
+    /// Entries and moves in one call: it runs the ring until nothing is on it, and hands over all that was delivered. c × (2n + 2) rounds
+    /// are always enough; a controller that has other work to do gives fewer, and calls again later.
+    fn dispatch(&mut self, ring: &mut Ring) {
+        let enough = u16::from(ring.channel_count) * (2 * u16::from(ring.node_count) + 2);
+        let answer = ring.dispatch(enough);
+        println!("dispatched {}: {} of {enough} rounds, {} delivery", answer.refusal, answer.rounds, answer.count);
+        for (channel, record) in answer.deliveries() {
+            print!(" ");
+            delivered(channel, record);
+            println!();
+            self.note(record);
+        }
+    }
+
     /// A task that asks while its last request is still under way is refused, and asks again later.
     fn ask(&mut self, ring: &mut Ring, channel: u8) {
         let refusal = ring.receive(channel);
@@ -62,6 +72,14 @@ impl Listing {
             let waiting = ring.waiting_set(ring.receivers[usize::from(channel)]);
             println!("  under way: {} hops left, {} task waits, set {:x}", left.hops, waiting.tasks, waiting.set);
         }
+    }
+}
+
+fn delivered(channel: u8, record: Record) {
+    let Record { batch, vessel, temperature, name_length, name } = record;
+    print!(" delivered {channel} {batch} {vessel} {temperature} {name_length}");
+    if name_length > 0 {
+        print!(" {}", String::from_utf8_lossy(&name[..name_length.into()]));
     }
 }
 
@@ -79,6 +97,7 @@ fn damaged(ring: &Ring) {
         copy.send(0, Record::default()),
         copy.enter(0),
         copy.move_on(0).refusal,
+        copy.dispatch(1).refusal,
         copy.withdraw(0),
         copy.hops_left(0).refusal,
         copy.waiting_set(0).refusal,
@@ -143,6 +162,9 @@ fn main() {
     listing.moved(ring.move_on(1));
     listing.moved(ring.move_on(1));
     println!("end {} {}", listing.accepted, listing.refused);
+    ring.send(0, Record { temperature: 634, ..record });
+    ring.receive(0);
+    listing.dispatch(&mut ring);
     damaged(&ring);
     damaged_history(&listing.history);
     taped();

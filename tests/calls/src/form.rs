@@ -25,6 +25,16 @@ pub fn record_in(bytes: &[u8; RECORD_BYTES]) -> Record {
     }
 }
 
+pub fn to_c(record: Record) -> vessel_ring::Record {
+    let Record { batch, vessel, temperature, length, name } = record;
+    vessel_ring::Record { batch, vessel, name_length: length, temperature, name }
+}
+
+pub fn from_c(record: vessel_ring::Record) -> Record {
+    let vessel_ring::Record { batch, vessel, name_length, temperature, name } = record;
+    Record { batch, vessel, temperature, length: name_length, name }
+}
+
 const EMPTY: Ring = Ring {
     deliveries: 0,
     started: 0,

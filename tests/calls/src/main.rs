@@ -3,17 +3,13 @@
 //! The rings come from runs from a fresh one, from hand-made ones, and from both with bytes changed. Besides, commands are read and
 //! written. Fails on a difference, when a refusal from 1 to 28 was never answered, and when withdrawals showed too little.
 
-mod draw;
-mod form;
-mod model;
-mod second;
-mod tape;
-
+use calls::draw::{self, Random};
+use calls::form::{self, from_c, to_c};
+use calls::model::{Answer, Call, Network};
+use calls::second;
+use calls::tape::{self, Read};
 use damaged_rings::damage::{change_place, change_whole};
-use draw::Random;
-use model::{Answer, Call, Network, Record};
 use std::process::ExitCode;
-use tape::Read;
 use vessel_ring::{Command, Reading, Ring};
 
 /// Accepted withdrawals; those of them that left a marked line empty, so that the mark went; and those that took the first out of a marked
@@ -75,16 +71,6 @@ impl Tally {
         let withdrawals = withdrawals.map(|(name, times)| (name.to_string(), times));
         refusals.chain(withdrawals).filter(|(_, times)| *times == 0).map(|(name, _)| name).collect()
     }
-}
-
-fn to_c(record: Record) -> vessel_ring::Record {
-    let Record { batch, vessel, temperature, length, name } = record;
-    vessel_ring::Record { batch, vessel, name_length: length, temperature, name }
-}
-
-fn from_c(record: vessel_ring::Record) -> Record {
-    let vessel_ring::Record { batch, vessel, name_length, temperature, name } = record;
-    Record { batch, vessel, temperature, length: name_length, name }
 }
 
 fn plain(refusal: u8) -> Answer {

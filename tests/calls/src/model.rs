@@ -1,5 +1,5 @@
-//! Document 01 with request N1 of 02 once more, from their text alone: buffers and lines are queues, and a message's way is walked node
-//! by node. Nothing here knows how a ring lies in memory.
+//! Document 01 with requests N1 and N3 of 02 once more, from their text alone: buffers and lines are queues, and a message's way is walked
+//! node by node. Nothing here knows how a ring lies in memory.
 
 use std::collections::VecDeque;
 
@@ -312,6 +312,25 @@ impl Network {
         node.mark &= !node.line.is_empty();
         self.channels[k].phase = Phase::Resting;
         Ok(Answer::Done)
+    }
+
+    /// "A round goes through nodes 0 to n - 1, at each trying an entry and then a move. Rounds are run until nothing is on the ring or the
+    /// given number of rounds is spent": nothing in a line and nothing in a buffer. The rounds made, and the deliveries in order.
+    pub fn dispatch(&mut self, given: u16) -> Refusable<(u16, Vec<(usize, Record)>)> {
+        refuse_if(!self.started, 8)?;
+        let mut deliveries = Vec::new();
+        for made in 0..given {
+            if self.nodes.iter().all(|node| node.line.is_empty() && node.buffer.is_empty()) {
+                return Ok((made, deliveries));
+            }
+            for p in 0..self.nodes.len() {
+                self.enter(p).ok();
+                if let Ok(Answer::Delivered(k, record)) = self.move_on(p) {
+                    deliveries.push((k, record));
+                }
+            }
+        }
+        Ok((given, deliveries))
     }
 
     fn hops_left(&self, k: usize) -> Refusable<Answer> {

@@ -1,10 +1,11 @@
 //! The second model of the vessel ring: document 01 ("The vessel ring: nodes,
-//! channels, slots and records") with the requests N1 ("A task that gives up") and
-//! N2 ("Temperature history for each batch") of document 02, written down once
-//! more in plain Rust, from those texts alone. Comments quote the sentence that
-//! the code follows, of 01 unless they say 02.
+//! channels, slots and records") with the requests N1 ("A task that gives up"), N2
+//! ("Temperature history for each batch") and N3 ("A dispatcher for the ring") of
+//! document 02, written down once more in plain Rust, from those texts alone.
+//! Comments quote the sentence that the code follows, of 01 unless they say 02.
 
 pub mod coverage;
+pub mod dispatch;
 pub mod generate;
 pub mod history;
 pub mod listing;

@@ -179,7 +179,7 @@ impl Channel {
         carried: Record::NONE,
     };
 
-    fn moving(&self) -> bool {
+    pub(crate) fn moving(&self) -> bool {
         self.phase == ASKING || self.phase == ANSWERING
     }
 
@@ -529,7 +529,7 @@ impl Ring {
         &self.nodes[..self.node_count as usize]
     }
 
-    fn added_channels(&self) -> &[Channel] {
+    pub(crate) fn added_channels(&self) -> &[Channel] {
         &self.channels[..self.channel_count as usize]
     }
 
@@ -559,7 +559,7 @@ impl Ring {
 
     /// "An unsound ring is 25, before all others, in every operation on a
     /// ring."
-    fn require_sound(&self) -> Result<(), Refusal> {
+    pub(crate) fn require_sound(&self) -> Result<(), Refusal> {
         require(self.sound(), Refusal::Unsound)
     }
 
@@ -567,7 +567,7 @@ impl Ring {
         require(self.started == 0, Refusal::AlreadyStarted)
     }
 
-    fn require_started(&self) -> Result<(), Refusal> {
+    pub(crate) fn require_started(&self) -> Result<(), Refusal> {
         require(self.started == 1, Refusal::NotStarted)
     }
 

@@ -1,6 +1,6 @@
 -- Lists. The calls on a sound started ring, one by one: an accepted receive, send, entry, move or withdrawal is a step of the theory, and
 -- leaves the sizes and ends as they are. Each law follows the order of a call's refusals and says nothing where one applies. Assumes nothing.
-use Prim.Native.Nat.{ℕ, _+_, _≤_, _<_}
+use Prim.Native.Nat.{ℕ, _≤_, _<_}
 use mathlib.Core.Path.{_≡_, refl, sym, ap, subst, _∙_}
 use mathlib.Core.Logic.{_≢_, ⊎-elim}
 use mathlib.Core.Bool.{Bool, true, false, false≢true, cond, not}
@@ -18,22 +18,20 @@ use Rattle.numbers.specs.declared.NodeNo.{NodeNo}
 use Rattle.numbers.specs.declared.ChannelNo.{ChannelNo}
 use Rattle.hops.specs.Hops.{next}
 use Rattle.hops.proofs.Laws
-use Rattle.network.specs.Counting.{one, sum, count}
 use Rattle.network.specs.Network.{Network, Phase, resting, asking, ready, answering, numbersOf, nodeCount, channelCount, node, channel, nextNode, moving, withChannel}
 use Rattle.network.specs.Sound.{Limits, lastCount, oneMore, isResting, isAsking, isReady, absent}
 use Rattle.network.specs.Calls.{Event, done, delivered, Outcome, refused, unless, Arrival, taken, passing, arrived, arrival, joinLine, inReceiverLine, respond, takeRequest, deliver, leave, hasSlot, handOver}
 use Rattle.network.specs.Calls
 use Rattle.network.specs.Runs.{Call, call}
 use Rattle.network.specs.Runs
-use Rattle.network.proofs.Ground.Splits.{by-test, by-same, by-list, by-phase, both-ways}
+use Rattle.network.proofs.Ground.Splits.{by-same, by-list, by-phase, both-ways}
 use Rattle.network.proofs.Ground.Numbers.{length-numbers}
-use Rattle.network.proofs.Ground.Counting.{sum-term, count-same, weigh-cons}
 use Rattle.network.proofs.Ground.Joined.{resting-is, asking-is, ready-is, absent-is}
 use Rattle.hops.proofs.Laws.{next-below}
-use Rattle.network.proofs.Theory.State.{Net, State, Sound, Did, did-receive, did-offer, did-answer, did-enter, did-pass, did-ask, did-respond, did-deliver, did-withdraw, targetIn, turn, join, pop, pass}
+use Rattle.network.proofs.Theory.State.{State, Did, did-receive, did-offer, did-answer, did-enter, did-pass, did-ask, did-respond, did-deliver, did-withdraw, targetIn, turn, join, pop, pass}
 use Rattle.network.proofs.Lists.Tables.{netOf, stateOf, Becomes, and-then, recounted, still-node, turned, joined, pulled, popped, passed, pushed}
 use Rattle.network.proofs.Theory.Weight.{target-below}
-use Rattle.network.proofs.Theory.Kept.{first-passes}
+use Rattle.network.proofs.Theory.Kept.{first-passes, first-moving}
 use Rattle.network.proofs.Lists.Outcomes.{After, not-done, was-done, after-some, if-met, if-good, Silent, unseen}
 use Rattle.network.proofs.Lists.Clauses.{Started}
 
@@ -52,17 +50,6 @@ pub data Answered (σ : Network) (a : Call) (e : Event) (τ : Network) : Type 0 
 -- a message that is not taken at the next node leaves its own: on a ring of one node it would be taken
 next-elsewhere : (n p q : ℕ) → p < n → q < n → next n p ≢ q → next n p ≢ p
 next-elsewhere n p q lp lq d e = ⊎-elim (λ last. d (omega arith)) (λ more. omega arith) (Laws.next-cases n p)
-
--- the message that is first in a buffer is under way
-module _ (N : Net) (s : State) (t : Sound N s) (p k : ℕ) (ks : List ℕ) (lp : p < N .n) (e : s .buffer p ≡ k ∷ ks) where
-  first-in : 0 < count k (s .buffer p)
-  first-in = rw (e, weigh-cons) (omega (arith, count-same k))
-
-  pub first-moving : moving (s .phase k) ≡ true
-  first-moving =
-      by-test (moving (s .phase k)) (λ m. m) λ m.
-      let none-on : sum (N .n) (λ q. count k (s .buffer q) + count k (s .line q)) ≡ 0 = t .once k (first-passes N t p k ks lp e .0) ∙ ap one m in
-      absurd (omega (arith, first-in, sum-term (N .n) p (λ q. count k (s .buffer q) + count k (s .line q)) lp))
 
 -- what becomes of a message under way that reaches node q
 pub data ArrivesAs (σ : Network) (q : NodeNo) (k : ChannelNo) : Arrival → Type 0 where
@@ -203,7 +190,7 @@ module _ (L : Limits) (σ : Network) (h : Started L σ) where
   move-did p =
       if-there (p .0) (nodeCount σ) _ _ _ λ lp.
       by-list (node σ p .buffer) (λ none. rw none not-done) λ k ks e.
-      let moves = first-moving (netOf σ) (stateOf σ) tables (p .0) (k .0) (numbersOf ks) lp (ap numbersOf e) in
+      let moves = first-moving (netOf σ) tables (p .0) (k .0) (numbersOf ks) lp (ap numbersOf e) in
       rw e (handed-over p k ks lp e _ (arrives-as σ _ k moves))
 
   -- every call on a sound started ring

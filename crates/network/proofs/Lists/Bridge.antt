@@ -22,9 +22,9 @@ use Rattle.network.proofs.Theory.State.{Sound, CanEnter, can-enter, Can
 use Rattle.network.proofs.Lists.Tables.{netOf, stateOf}
 use Rattle.network.proofs.Lists.Clauses.{Within, Started, sound-started, started-sound}
 use Rattle.network.proofs.Lists.Outcomes.{after-all, go-on}
-use Rattle.network.proofs.Lists.Accepted.{Stepped, Answered, by-step, by-question, call-did, ArrivesAs, is-taken, is-arrived, is-passing, arrives-as, first-moving}
+use Rattle.network.proofs.Lists.Accepted.{Stepped, Answered, by-step, by-question, call-did, ArrivesAs, is-taken, is-arrived, is-passing, arrives-as}
 use Rattle.network.proofs.Lists.Before.{call-before}
-use Rattle.network.proofs.Theory.Kept.{kept}
+use Rattle.network.proofs.Theory.Kept.{kept, first-moving}
 
 -- a step leads from a sound started ring to a sound started ring
 pub stepped-started : (L : Limits) (σ τ : Network) {a : Call} {e : Event} → Started L σ → Stepped σ a e τ → Started L τ
@@ -78,7 +78,7 @@ module _ (L : Limits) (σ : Network) (h : Started L σ) (p : NodeNo) (lp : p .0 
       isAccepted (moveFirst p (node σ p .buffer) σ) ≡ true
   first-handed k ks e pass-on =
       let first = numbers-first (node σ p .buffer) e in
-      let moves = first-moving (netOf σ) (stateOf σ) (h .tables) (p .0) k ks lp e in
+      let moves = first-moving (netOf σ) (h .tables) (p .0) k ks lp e in
       rw (first .1) (handed-over (nextNode σ p) (channelNo k) (first .0) _ (arrives-as σ _ (channelNo k) moves) (λ d. pass-on d (first .0)))
 
   pub move-accepted : CanMove (netOf σ) (stateOf σ) (p .0) → isAccepted (Calls.move p σ) ≡ true

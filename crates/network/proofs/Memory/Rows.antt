@@ -3,16 +3,19 @@
 use Prim.Native.Nat.{ℕ, zero, suc, pred, _+_, _*_, _-_, _≤_, _<_}
 use mathlib.Core.Path.{_≡_, refl, sym, ap, _∙_}
 use mathlib.Core.Logic.{_≢_}
+use mathlib.Core.Bool.{cond}
 use mathlib.Core.List.{List, [], _∷_, _++_, map, append-assoc, append-nil}
 use native.Mathlib.Nat.{not-suc-le-zero, zero-add, suc-add, mul-suc, mul-zero, mul-le-mul-left}
 use native.Mathlib.Omega.{arith}
+use lib.Dec.{ltb}
+use borrow.Author.Tests.{lt-ltb, le-ltb}
 use lib.ListN.{length, getD, take, drop, set, replicate, length-append, length-take, length-drop, length-map, length-set, length-replicate, replicate-append-replicate, take-append-drop, drop-of-length-le, List·getD-append}
 use lib.Seq.{length-take-le, take-all, take-at, drop-at, take-append-le, drop-append-le, take-append-add, getD-take, getD-drop, getD-at, getD-set-same, getD-set-other, set-append-left, take-set-lt, take-add, set-at, ext-getD}
 use Rattle.numbers.specs.declared.ChannelNo.{ChannelNo}
 use Rattle.network.specs.Counting.{tabulate}
 use Rattle.network.specs.Network.{channelNo}
 use Rattle.network.specs.Layout.{row, padded, rows, cellsOf, queueOf}
-use Rattle.network.proofs.Ground.Splits.{by-same}
+use Rattle.network.proofs.Ground.Splits.{by-same, by-less}
 use Rattle.network.proofs.Ground.Numbers.{map-append}
 
 -- lists and maps
@@ -91,6 +94,33 @@ module _ {ℓ} {A : Type ℓ} where
       by-same i p
       (λ e. rw e (sym (getD-set-same (tabulate n f) p (g p) (g p) (rw length-tabulate l))))
       (λ d. h i m d ∙ sym (getD-set-other (tabulate n f) p i (g p) (g p) d ∙ getD-tabulate n f i (g p) m)))
+
+  -- a table of blanks that a loop fills from the front: the first i have their values
+  pub record FilledTo (n : ℕ) (f : ℕ → A) (d : A) (values : List A) (i : ℕ) : Type ℓ where
+    pub whole : length values ≡ n
+    pub are : (j : ℕ) → j < i → f j ≡ getD values j d
+    pub blank : (j : ℕ) → i ≤ j → d ≡ getD values j d
+
+  pub filled-none : (n : ℕ) (f : ℕ → A) (d : A) → FilledTo n f d (replicate n d) 0
+  filled-none n f d =
+      record { whole = length-replicate n d; are = λ j l. absurd (not-suc-le-zero l); blank = λ j l. sym (getD-blanks n j d) }
+
+  module _ {n : ℕ} {f : ℕ → A} {d : A} {values : List A} {i : ℕ} (so-far : FilledTo n f d values i) where
+    pub filled-on : {x : A} → i < n → x ≡ f i → FilledTo n f d (set values i x) (i + 1)
+    filled-on {x} l is =
+        record {
+          whole = length-set values i x ∙ so-far .whole;
+          are = λ j m.
+              by-same j i
+              (λ e. rw e (sym is ∙ sym (getD-set-same values i x d (omega (arith, so-far .whole)))))
+              (λ apart. so-far .are j (omega arith) ∙ sym (getD-set-other values i j x d apart));
+          blank = λ j m. so-far .blank j (omega arith) ∙ sym (getD-set-other values i j x d (λ e. absurd (omega arith)));
+        }
+
+    pub filled-up : tabulate n (λ j. cond (ltb j i) (f j) d) ≡ values
+    filled-up =
+        tabulate-is n (λ j. cond (ltb j i) (f j) d) d values (so-far .whole)
+        (λ j l. by-less j i (λ m. rw (lt-ltb j i m) (so-far .are j m)) (λ m. rw (le-ltb j i m) (so-far .blank j m)))
 
 -- a list made as long as a row
 

@@ -39,17 +39,20 @@ module _ (calls : List Call) where
   pub fresh-run : view (run callRing calls freshRing) ≡ run (call ringLimits) calls fresh
   fresh-run = from-fresh .same-ring ∙ ap (run (call ringLimits) calls) view-fresh
 
+  pub fresh-sound : soundRing (run callRing calls freshRing) ≡ true
+  fresh-sound = from-fresh .still-sound
+
   -- and so do further calls
   pub answers-after : (more : List Call) →
       answers callRing more (run callRing calls freshRing) ≡ answers (call ringLimits) more (run (call ringLimits) calls fresh)
   answers-after more =
-      ring-demand3 .each (run callRing calls freshRing) more (from-fresh .still-sound) .same-answers
+      ring-demand3 .each (run callRing calls freshRing) more fresh-sound .same-answers
       ∙ ap (answers (call ringLimits) more) fresh-run
 
   pub counted-after : (more : List Call) →
       counted callRing more (run callRing calls freshRing) ≡ counted (call ringLimits) more (run (call ringLimits) calls fresh)
   counted-after more =
-      counted-seen ringLimits freshRing soundRing view callRing ring-machine more (run callRing calls freshRing) (from-fresh .still-sound)
+      counted-seen ringLimits freshRing soundRing view callRing ring-machine more (run callRing calls freshRing) fresh-sound
       ∙ ap (counted (call ringLimits) more) fresh-run
 
   number-after : (a : Call) →

@@ -14,6 +14,7 @@ use Rattle.network.specs.Sound
 use Rattle.network.specs.Calls.{Outcome, refused, accepted}
 use Rattle.network.specs.Runs.{Call, enter, move, call, after, isAccepted, countOf, deedBy, offeredBy, deliveredBy, run, deeds, counted, offeredOn, deliveredOn}
 use Rattle.network.specs.Answers.{saidIn, says, answers}
+use Rattle.network.specs.Dispatch.{handedBy, deliveries}
 use Rattle.network.specs.Demand.{InTime, UnderWay, Served, InOrder, AsDefined, Demand3}
 
 abbrev pub seenBy : {S : Type 0} → (S → Network) → Outcome S → Outcome Network
@@ -46,6 +47,10 @@ module _ {S : Type 0} (seen : S → Network) where
   seen-delivered k (refused r) = refl
   seen-delivered k (accepted e t) = refl
 
+  pub seen-handed : (o : Outcome S) → handedBy o ≡ handedBy (seenBy seen o)
+  seen-handed (refused r) = refl
+  seen-handed (accepted e t) = refl
+
 pub record Machine (L : Limits) {S : Type 0} (fresh : S) (sound : S → Bool) (seen : S → Network) (step : Call → S → Outcome S) : Type 0 where
   pub fresh-sound : sound fresh ≡ true
   pub fresh-seen : seen fresh ≡ Network.fresh
@@ -57,18 +62,18 @@ pub record Machine (L : Limits) {S : Type 0} (fresh : S) (sound : S → Bool) (s
 module _ (L : Limits) {S : Type 0} (fresh : S) (sound : S → Bool) (seen : S → Network) (step : Call → S → Outcome S) (M : Machine L fresh sound seen step) where
   open Machine M using (fresh-sound, fresh-seen, seen-sound, step-seen, step-sound, step-unsound)
 
-  seen-next : (a : Call) (s : S) → sound s ≡ true → seen (after s (step a s)) ≡ after (seen s) (call L a (seen s))
+  pub seen-next : (a : Call) (s : S) → sound s ≡ true → seen (after s (step a s)) ≡ after (seen s) (call L a (seen s))
   seen-next a s h = seen-after seen s (step a s) ∙ ap (after (seen s)) (step-seen a s h)
 
-  run-sound : (calls : List Call) (s : S) → sound s ≡ true → sound (run step calls s) ≡ true
+  pub run-sound : (calls : List Call) (s : S) → sound s ≡ true → sound (run step calls s) ≡ true
   run-sound [] s h = h
   run-sound (a ∷ calls) s h = run-sound calls (after s (step a s)) (step-sound a s h)
 
-  run-seen : (calls : List Call) (s : S) → sound s ≡ true → seen (run step calls s) ≡ run (call L) calls (seen s)
+  pub run-seen : (calls : List Call) (s : S) → sound s ≡ true → seen (run step calls s) ≡ run (call L) calls (seen s)
   run-seen [] s h = refl
   run-seen (a ∷ calls) s h = run-seen calls (after s (step a s)) (step-sound a s h) ∙ ap (run (call L) calls) (seen-next a s h)
 
-  said-seen : (a : Call) (s : S) → sound s ≡ true → saidIn (step a s) ≡ saidIn (call L a (seen s))
+  pub said-seen : (a : Call) (s : S) → sound s ≡ true → saidIn (step a s) ≡ saidIn (call L a (seen s))
   said-seen a s h = seen-said seen (step a s) ∙ ap saidIn (step-seen a s h)
 
   answers-seen : (calls : List Call) (s : S) → sound s ≡ true → answers step calls s ≡ answers (call L) calls (seen s)
@@ -106,6 +111,11 @@ module _ (L : Limits) {S : Type 0} (fresh : S) (sound : S → Bool) (seen : S �
   handed-seen k [] s h = refl
   handed-seen k (a ∷ calls) s h =
       rw (seen-delivered seen k (step a s), step-seen a s h, handed-seen k calls (after s (step a s)) (step-sound a s h), seen-next a s h)
+
+  pub deliveries-seen : (calls : List Call) (s : S) → sound s ≡ true → deliveries step calls s ≡ deliveries (call L) calls (seen s)
+  deliveries-seen [] s h = refl
+  deliveries-seen (a ∷ calls) s h =
+      rw (seen-handed seen (step a s), step-seen a s h, deliveries-seen calls (after s (step a s)) (step-sound a s h), seen-next a s h)
 
   accepted-seen : (a : Call) (s : S) → sound s ≡ true → isAccepted (step a s) ≡ isAccepted (call L a (seen s))
   accepted-seen a s h = seen-accepted seen (step a s) ∙ ap isAccepted (step-seen a s h)

@@ -24,7 +24,7 @@ step-leaves ring (accepted (hopsAre h) s) numbered = absurd (numbered refl)
 step-leaves ring (accepted (waitingAre w) s) numbered = absurd (numbered refl)
 
 module _ (code : Call → Ring → Step) (meets : MeetsContracts code) where
-  returned-is : returned code ≡ callRing
+  pub returned-is : returned code ≡ callRing
   returned-is = λ i a ring. (ap outcomeOf (meets a ring) ∙ steps-keep ring (callRing a ring)) i
 
   leaves : (a : Call) (ring : Ring) → numberIn (code a ring .reply .answer) ≢ 0 → ChangesNothing code a ring

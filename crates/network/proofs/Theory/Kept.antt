@@ -182,7 +182,13 @@ module _ (N : Net) where
     here-pop : (j : ℕ) → here N (pop p ks σ) j + one (eqb k j) ≡ here N σ j
     here-pop j = load-pop N (standing j) σ p l k ks e
 
-    -- the first of a buffer stands nowhere else, so taken out it stands nowhere
+    -- the first of a buffer is under way
+    pub first-moving : moving (σ .phase k) ≡ true
+    first-moving =
+        by-test (moving (σ .phase k)) (λ m. m)
+        (λ m. absurd (omega (arith, here-pop k, count-same k, s .once k (first-passes .0), ap one m)))
+
+    -- it stands nowhere else, so taken out it stands nowhere
     pub off-pop : Off k (pop p ks σ)
     off-pop =
         record {

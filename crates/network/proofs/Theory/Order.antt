@@ -41,10 +41,10 @@ at-channel σ k j f o xs ys same other =
 
 -- record x, sent or handed out on channel k, as channel j sees it
 
-on-same : (j k : ℕ) (x : BatchRecord) → j ≡ k → onChannel (channelNo j) (channelNo k) x ≡ x ∷ []
+pub on-same : (j k : ℕ) (x : BatchRecord) → j ≡ k → onChannel (channelNo j) (channelNo k) x ≡ x ∷ []
 on-same j k x e = rw (eq-eqb k j (sym e))
 
-on-other : (j k : ℕ) (x : BatchRecord) → j ≢ k → onChannel (channelNo j) (channelNo k) x ≡ []
+pub on-other : (j k : ℕ) (x : BatchRecord) → j ≢ k → onChannel (channelNo j) (channelNo k) x ≡ []
 on-other j k x d = rw (ne-eqb k j (λ e. d (sym e)))
 
 module _ (N : Net) where

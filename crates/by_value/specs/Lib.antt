@@ -1,0 +1,2 @@
+-- What the parts of the calls by value promise.
+pub mod Told

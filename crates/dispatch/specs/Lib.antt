@@ -1,0 +1,3 @@
+-- What the parts of the dispatcher are asked and promise.
+pub mod Log
+pub mod Rounds

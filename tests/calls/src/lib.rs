@@ -1,0 +1,8 @@
+//! A model of document 01 with real queues, how its network lies in memory, and what is drawn: for the program beside it and for
+//! `tests/dispatch`.
+
+pub mod draw;
+pub mod form;
+pub mod model;
+pub mod second;
+pub mod tape;

@@ -1,0 +1,146 @@
+//! dispatch COUNT SEED: makes COUNT calls of the library's dispatcher, each also on two models and as the same entries and moves called
+//! singly through the library, and compares every byte of the answer and of the ring after it; then follows lists of calls with dispatcher
+//! calls among them.
+//! The rings are crowded ones, the largest, all of the tiniest, those of drawn runs, hand-made ones, and these with bytes changed.
+//! Fails on a difference, and when what has to be seen (src/tally.rs) never was.
+
+mod acts;
+mod compare;
+mod rings;
+mod singly;
+mod tally;
+
+use calls::draw::Random;
+use singly::{enough, on_ring, Rounds};
+use std::mem::size_of;
+use std::process::ExitCode;
+use tally::{Seen, Tally, GIVENS};
+use vessel_ring::Ring;
+
+/// The call with so many rounds on a ring that is to be refused.
+fn refused(ring: &Ring, given: u16, tally: &mut Tally) -> Result<(), String> {
+    let outcome = compare::call(ring, given, None)?;
+    tally.call(&Seen { ring, given, outcome: &outcome, rounds: None });
+    Ok(())
+}
+
+/// How many rounds these are, of a ring that makes so many.
+fn number(name: &str, made: u16, enough: u16, random: &mut Random) -> u16 {
+    match name {
+        "0" => 0,
+        "1" => 1,
+        "made - 1" => made.saturating_sub(1),
+        "made" => made,
+        "made + 1" => made + 1,
+        "enough" => enough,
+        "65535" => u16::MAX,
+        _ => random.between(0, usize::from(made) + 1) as u16,
+    }
+}
+
+/// The call on a ring that runs, with as many rounds as the names say. All that it can make are made singly, once.
+fn running(ring: &Ring, names: &[&'static str], random: &mut Random, tally: &mut Tally) -> Result<(), String> {
+    let enough = enough(ring);
+    let rounds = Rounds::run(ring, enough);
+    if on_ring(&rounds.rings[rounds.made()]) > 0 {
+        return Err(format!("called singly, {enough} rounds leave something on the ring: {ring:?}"));
+    }
+    for &name in names {
+        let given = number(name, rounds.made() as u16, enough as u16, random);
+        let outcome = compare::call(ring, given, Some(&rounds))?;
+        tally.call(&Seen { ring, given, outcome: &outcome, rounds: Some(&rounds) });
+        if rounds.made() >= 3 {
+            tally.given(name);
+        }
+    }
+    Ok(())
+}
+
+/// A ring as it comes.
+fn any(ring: &Ring, random: &mut Random, tally: &mut Tally) -> Result<(), String> {
+    if ring.is_sound() && ring.started == 1 {
+        let names = [random.pick(&GIVENS), random.pick(&GIVENS)];
+        return running(ring, &names, random, tally);
+    }
+    refused(ring, random.pick(&[0, 1, 5, u16::MAX]), tally)
+}
+
+/// The crowded ring makes 845 rounds of 1,054, with 31 deliveries, and 844 leave something.
+fn crowded(random: &mut Random, tally: &mut Tally) -> Result<(), String> {
+    let ring = rings::crowded();
+    let (mut whole, mut part) = (ring, ring);
+    let (answer, shorter) = (whole.dispatch(1054), part.dispatch(844));
+    if (answer.rounds, answer.count, on_ring(&whole)) != (845, 31, 0) {
+        return Err(format!("the crowded ring: {} rounds, {} deliveries", answer.rounds, answer.count));
+    }
+    if shorter.rounds != 844 || on_ring(&part) == 0 {
+        return Err(format!("the crowded ring, given 844: {} rounds, {} left", shorter.rounds, on_ring(&part)));
+    }
+    running(&ring, &GIVENS, random, tally)
+}
+
+/// The rings that are always called on.
+fn aimed(random: &mut Random, tally: &mut Tally) -> Result<(), String> {
+    crowded(random, tally)?;
+    for ring in rings::largest() {
+        running(&ring, &GIVENS, random, tally)?;
+    }
+    for ring in rings::tiny() {
+        running(&ring, &["0", "1", "made - 1", "made", "enough"], random, tally)?;
+        tally.see(on_ring(&ring) > 0, "a ring of a tiny plan");
+    }
+    for given in [0, 1, u16::MAX] {
+        refused(&Ring::fresh(), given, tally)?;
+        refused(&Ring::from_bytes(&[0xFF; size_of::<Ring>()]), given, tally)?;
+    }
+    Ok(())
+}
+
+/// A drawn ring, then damaged; and a list of calls.
+fn drawn(random: &mut Random, tally: &mut Tally) -> Result<(), String> {
+    let (source, ring) = match random.below(100) {
+        0..=2 => ("a packed ring", rings::packed(random)),
+        3..=59 => ("a ring of a drawn run", rings::drawn(random)),
+        _ => ("a ring made by hand", rings::by_hand(random)),
+    };
+    any(&ring, random, tally)?;
+    tally.see(on_ring(&ring) > 0, source);
+    for _ in 0..3 {
+        let changed = rings::damaged(&ring, random, tally);
+        any(&changed, random, tally)?;
+        tally.see(changed.is_sound() && on_ring(&changed) > 0, "a damaged ring that is still sound");
+    }
+    acts::list(random, tally)
+}
+
+fn compare(count: u64, seed: u64, tally: &mut Tally) -> Result<(), String> {
+    aimed(&mut Random::new(seed), tally)?;
+    let mut run = 0;
+    while tally.calls < count {
+        let mut random = Random::new(seed.wrapping_mul(0x9E37_79B9_7F4A_7C15) ^ run);
+        drawn(&mut random, tally).map_err(|difference| format!("seed {seed}, run {run}: {difference}"))?;
+        run += 1;
+    }
+    Ok(())
+}
+
+fn main() -> ExitCode {
+    let numbers: Vec<Option<u64>> = std::env::args().skip(1).map(|word| word.parse().ok()).collect();
+    let [Some(count), Some(seed)] = numbers[..] else {
+        eprintln!("dispatch COUNT SEED");
+        return ExitCode::from(2);
+    };
+    let mut tally = Tally::new();
+    if let Err(difference) = compare(count, seed, &mut tally) {
+        println!("{difference}");
+        return ExitCode::FAILURE;
+    }
+    tally.print();
+    let missing = tally.missing();
+    if !missing.is_empty() {
+        println!("never: {}", missing.join("; "));
+        return ExitCode::FAILURE;
+    }
+    println!("no difference");
+    ExitCode::SUCCESS
+}
