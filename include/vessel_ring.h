@@ -24,7 +24,7 @@
 
    Every call answers 0, VESSEL_DONE, or the number of the first refusal that applies, by itself or as `refusal` of a struct. A refusal
    leaves the ring, the table and every buffer as they were, to the byte. Do not write to ring or table yourself; one whose bytes are not
-   those of a ring or table that the calls can reach, for whatever reason, is refused by every call on it with VESSEL_UNSOUND_RING.
+   those of a sound ring or table, for whatever reason, is refused by every call on it with VESSEL_UNSOUND_RING.
 
    What the caller owes, and nothing checks:
    - `ring` points to a whole struct vessel_ring that nothing else reads or writes during the call: the calls know no locks;
@@ -87,7 +87,8 @@ enum vessel_refusal {
     VESSEL_NO_ROOM_TO_WRITE = 26,        /* fewer bytes from the place on than the command is wide */
     VESSEL_NOT_ASKING = 27,              /* no request to withdraw: the channel rests, or its request has arrived */
     VESSEL_REQUEST_IN_BUFFER = 28,       /* the request has left its line: too late to withdraw it */
-    VESSEL_NO_EMPTY_ROW = 29             /* the batch has no row and all 128 are in use: close a batch first */
+    VESSEL_NO_EMPTY_ROW = 29,            /* the batch has no row and all 128 are in use: close a batch first */
+    VESSEL_BLANK_END = 30                /* the name begins or ends with a blank, 0x20: send refuses it, and nothing else does */
 };
 
 /* What is under way on a channel. */
@@ -119,7 +120,8 @@ struct vessel_ring {
     uint8_t carried[VESSEL_CHANNELS][VESSEL_RECORD_BYTES];         /* the record that the response carries, as on a tape */
 };
 
-/* A batch record. */
+/* A batch record. To be sent, its name may not begin or end with a blank, 0x20: two labels that differ by one look the same on paper. A
+   ring that holds such a name, from before send refused it, is sound; the record is delivered unchanged, and the history takes it. */
 struct vessel_record {
     uint32_t batch;            /* not 0 */
     uint8_t vessel;
@@ -221,7 +223,7 @@ uint8_t vessel_ring_start(struct vessel_ring *ring);
 uint8_t vessel_ring_receive(struct vessel_ring *ring, uint8_t channel);
 
 /* Offers a record on a channel. If the request has arrived, the record joins the sender node's line as the response; else it is kept
-   until the request arrives. Refusals: 25, 8, 9, 11, 12, 13, 14, 15. */
+   until the request arrives. Its name may be empty, but not begin or end with a blank. Refusals: 25, 8, 9, 11, 12, 13, 14, 30, 15. */
 uint8_t vessel_ring_send(struct vessel_ring *ring, uint8_t channel, struct vessel_record record);
 
 /* ---- the traffic: called at every node, in any order, again and again. A refusal of these says that there is nothing to do here now. */
@@ -259,8 +261,8 @@ uint8_t vessel_ring_is_sound(const struct vessel_ring *ring);
 /* ---- the history: a table of `rows` rows, apart from any ring. 25 is a table that has not exactly 128 rows, has a row that is not as
    said above, or has two rows of one batch. */
 
-/* Notes a record's temperature in the row of its batch, else in the lowest empty row; the oldest of 24 readings makes way. Refusals: 25,
-   11, 12, 13, 14, 29. */
+/* Notes a record's temperature in the row of its batch, else in the lowest empty row; the oldest of 24 readings makes way. A blank at an
+   end of the name is no fault here. Refusals: 25, 11, 12, 13, 14, 29. */
 uint8_t vessel_history_note(struct vessel_row *table, size_t rows, struct vessel_record record);
 
 /* Closes a batch: its whole row becomes zero, an empty row. Where it has no row nothing changes. Refusals: 25. */

@@ -51,9 +51,14 @@ end 10 2
 WIDTHS = {0x10: 2, 0x11: 3, 0x12: 1, 0x20: 2, 0x21: 42, 0x22: 2, 0x23: 2, 0x24: 2}
 SEND = "send 0 batch 7 vessel 3 temperature 612 "
 COMMANDS = "add node, add channel, start, receive, send, enter, move, withdraw or bytes"
-TAPES = ("listing", "turn", "edges", "withdraw")
+TAPES = ("listing", "turn", "edges", "withdraw", "blanks")
 # Of tapes/withdraw, for each of its withdrawals: the refusal, or 0.
 WITHDRAW_ANSWERS = ["8", "9", "27", "28", "0", "0", "27", "27"]
+# Of tapes/blanks, for each of its sends: name length, cells up to the fill, and the answer.
+BLANKS_ANSWERS = [
+    (0, b"", "0"), (3, b"A B", "0"), (1, b" ", "30"), (2, b"A ", "30"), (2, b" A", "30"),
+    (32, 31 * b"A" + b" ", "30"), (33, 31 * b"A" + b" ", "13"), (2, b" \x7f", "14"),
+    (1, b"A ", "14"), (32, 32 * b"A", "0"), (2, b"A ", "30"), (2, b"AB", "15")]
 QUOTED = "a quoted name of at most 32 characters 20 to 7e"
 
 
@@ -332,6 +337,13 @@ class Tapes(unittest.TestCase):
         # The withdrawal that empties node 1's line frees the move before it.
         freed = [f[1:] for f in fields[17:20]]
         self.assertEqual(freed, [["23", "21"], ["24", "0"], ["23", "0"]])
+
+    def test_blanks(self):
+        commands = self.commands(self.load("blanks", "tape"))
+        lines = self.load("blanks", "out").decode("ascii").splitlines()
+        rows = [(command[9], command[10:].rstrip(b"\0"), line.split()[2])
+                for command, line in zip(commands, lines) if command[0] == 0x21]
+        self.assertEqual(rows, BLANKS_ANSWERS)
 
     def test_texts_give_the_tapes(self):
         for name in TAPES:

@@ -23,7 +23,7 @@ static struct vessel_record record_of(uint32_t batch)
     record.vessel = 0xA5;
     record.temperature = -399;
     record.name_length = 32;
-    memcpy(record.name, "abcdefghijklmnopqrstuvwxyz0123~ ", 32);
+    memcpy(record.name, "abcdefghijklmnopqrstuvwxyz0123 ~", 32);
     return record;
 }
 

@@ -2,20 +2,25 @@
 -- a limit or a clause can change behind its name. Assumes nothing.
 use mathlib.Core.Path.{_≡_, refl, sym, ap, _∙_}
 use mathlib.Core.Bool.{Bool, true, false, not, _&&_, false≢true, and-eq-true-iff}
+use mathlib.Core.List.{[], _∷_}
 use Prim.Native.Nat.{ℕ, _≤_, _<_, _^_}
 use native.Mathlib.Omega.{arith}
-use lib.Dec.{leb, ltb}
+use types.Run.{OneOf, miss}
+use denote.Enum.Declared.{tagOf}
+use lib.Dec.{leb, ltb, lit≤}
 use lib.IntN.{ℤ, pos, negsuc}
 use lib.Signed.{leZ, ltZ}
 use lib.ListN.{length}
 use borrow.Author.Tests.{eq-eqb, ne-eqb, le-leb, lt-leb, lt-ltb, ltb-true, ltb-false}
-use Rattle.refusal.specs.declared.Refusal.the-variants.{BatchNumberZero, TemperatureOutOfRange, NameTooLong, BadName}
+use Rattle.refusal.specs.declared.Refusal.{Refusal}
+use Rattle.refusal.specs.declared.Refusal.the-variants.{BatchNumberZero, TemperatureOutOfRange, NameTooLong, BadName, BlankEnd}
 use Rattle.refusal.proofs.Number.{in-range}
 use Rattle.batch.specs.declared.BatchRecord.{BatchRecord}
 use Rattle.batch.specs.declared.Verdict.{Verdict}
 use Rattle.batch.specs.declared.Verdict.the-variants.{Good, Refused}
+use Rattle.batch.proofs.Verdict.{the-type}
 use Rattle.batch.specs.Good.{inRange, nameLimit, batchGood, tempGood, nameLengthGood, nameGood, widthsGood}
-use Rattle.batch.specs.Good.{goodRecord, verdictOf, verdictNumber, GoodExactly, GoodIsZero, GoodNumber}
+use Rattle.batch.specs.Good.{goodRecord, verdictOf, verdictNumber, blankEnds, sendVerdict, GoodExactly, GoodIsZero, GoodNumber, SentExactly, Means30}
 
 -- by cases on a test, each with the test's outcome in hand
 pub by-test : {A : Type 0} (b : Bool) → (b ≡ true → A) → (b ≡ false → A) → A
@@ -118,6 +123,11 @@ module _ (r : BatchRecord) where
       (λ n. rw (b, t, l, n)))
       (λ l. rw (b, t, l))) (λ t. rw (b, t))) (λ b. rw b)
 
+-- the verdict of a `match` arm that is no refusal
+pub no-refusal : (v : Verdict) → OneOf (0 ∷ []) (tagOf the-type v) → v ≡ Good
+no-refusal Good k = refl
+no-refusal (Refused r) k = absurd (miss (0 ∷ []) 1 tt k)
+
 accepted-good : (v : Verdict) → accepted v ≡ true → v ≡ Good
 accepted-good Good e = refl
 accepted-good (Refused x) e = absurd (false≢true e)
@@ -136,3 +146,57 @@ good-is-zero r = (λ e. ap verdictNumber (good-exactly r .0 e), λ e. good-exact
 
 pub good-number : GoodNumber
 good-number r e z = false≢true (sym (batch-zero r z) ∙ good-clauses r e .number)
+
+-- ---- what send asks
+module _ (r : BatchRecord) where
+  pub sent-bad : (x : Refusal) → verdictOf r ≡ Refused x → sendVerdict r ≡ Refused x
+  unfolding sendVerdict
+  sent-bad x bad = rw bad
+
+  pub sent-blank : verdictOf r ≡ Good → blankEnds r ≡ true → sendVerdict r ≡ Refused BlankEnd
+  unfolding sendVerdict
+  sent-blank good ends = rw (good, ends)
+
+  pub sent-taken : verdictOf r ≡ Good → blankEnds r ≡ false → sendVerdict r ≡ Good
+  unfolding sendVerdict
+  sent-taken good ends = rw (good, ends)
+
+  -- by what is asked of every record, and then by the ends of the name
+  module _ (P : Verdict → Type 0) (bad : (x : Refusal) → verdictOf r ≡ Refused x → P (Refused x))
+      (ends : goodRecord r ≡ true → blankEnds r ≡ true → P (Refused BlankEnd)) (fine : goodRecord r ≡ true → blankEnds r ≡ false → P Good) where
+    by-verdict : (v : Verdict) → verdictOf r ≡ v → P (sendVerdict r)
+    by-verdict Good e =
+        let good = good-exactly r .1 e in
+        by-test (blankEnds r) (λ b. rw (sent-blank e b) (ends good b)) (λ b. rw (sent-taken e b) (fine good b))
+    by-verdict (Refused x) e = rw (sent-bad x e) (bad x e)
+
+    by-ends : P (sendVerdict r)
+    by-ends = by-verdict (verdictOf r) refl
+
+  -- no record is refused with 30 but by send
+  verdict-most : verdictNumber (verdictOf r) ≤ 14
+  unfolding verdictOf
+  verdict-most =
+      by-test (batchGood r) (λ b.
+      by-test (tempGood r) (λ t.
+      by-test (nameLengthGood r) (λ l.
+      by-test (nameGood r && widthsGood r) (λ n. rw (b, t, l, n) (lit≤ tt)) (λ n. rw (b, t, l, n) (lit≤ tt)))
+      (λ l. rw (b, t, l) (lit≤ tt))) (λ t. rw (b, t) (lit≤ tt))) (λ b. rw b (lit≤ tt))
+
+pub sent-exactly : SentExactly
+sent-exactly r = (
+  by-ends r (λ v. v ≡ Good → (goodRecord r ≡ true) × (blankEnds r ≡ false))
+      (λ x _ e. absurd (false≢true (ap accepted e)))
+      (λ _ _ e. absurd (false≢true (ap accepted e)))
+      (λ g b _. (g, b)),
+  λ h. sent-taken r (good-exactly r .0 (h .0)) (h .1),
+)
+
+pub means-30 : Means30
+means-30 r = (
+  by-ends r (λ v. v ≡ Refused BlankEnd → (goodRecord r ≡ true) × (blankEnds r ≡ true))
+      (λ x bad e. absurd (omega (arith, verdict-most r, ap verdictNumber (bad ∙ e))))
+      (λ g b _. (g, b))
+      (λ _ _ e. absurd (false≢true (sym (ap accepted e)))),
+  λ h. sent-blank r (good-exactly r .0 (h .0)) (h .1),
+)

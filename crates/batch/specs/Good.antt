@@ -1,15 +1,15 @@
--- What makes a batch record good, clause by clause as document 01 has it, and the first refusal that applies to a record.
--- Assumes nothing.
+-- What makes a batch record good, clause by clause as document 01 has it, the first refusal that applies to a record, and what send asks
+-- of one besides (document 02). Assumes nothing.
 use mathlib.Core.Path.{_≡_}
 use mathlib.Core.Logic.{_↔_}
-use mathlib.Core.Bool.{Bool, true, false, not, _&&_}
+use mathlib.Core.Bool.{Bool, true, false, not, _&&_, _||_}
 use mathlib.Core.List.{List, [], _∷_}
-use Prim.Native.Nat.{ℕ, _^_}
+use Prim.Native.Nat.{ℕ, _^_, _-_}
 use lib.Dec.{eqb, leb, ltb}
 use lib.IntN.{ℤ, pos, negℤ}
 use lib.Signed.{leZ}
-use lib.ListN.{length, take, drop}
-use Rattle.refusal.specs.declared.Refusal.the-variants.{BatchNumberZero, TemperatureOutOfRange, NameTooLong, BadName}
+use lib.ListN.{length, getD, take, drop}
+use Rattle.refusal.specs.declared.Refusal.the-variants.{BatchNumberZero, TemperatureOutOfRange, NameTooLong, BadName, BlankEnd}
 use Rattle.refusal.specs.Number.{numberOf}
 use Rattle.batch.specs.declared.BatchRecord.{BatchRecord}
 use Rattle.batch.specs.declared.Verdict.{Verdict}
@@ -28,6 +28,9 @@ nameLimit = 32
 abbrev pub firstCharacter : ℕ
 firstCharacter = 0x20
 
+abbrev pub blank : ℕ
+blank = 0x20
+
 abbrev pub lastCharacter : ℕ
 lastCharacter = 0x7E
 
@@ -45,6 +48,9 @@ isZero n = eqb n 0
 
 abbrev pub isCharacter : ℕ → Bool
 isCharacter b = leb firstCharacter b && leb b lastCharacter
+
+abbrev pub isBlank : ℕ → Bool
+isBlank b = eqb b blank
 
 -- a temperature that a record may have
 abbrev pub inRange : ℤ → Bool
@@ -105,10 +111,22 @@ abbrev pub verdictNumber : Verdict → ℕ
 verdictNumber Good = 0
 verdictNumber (Refused r) = numberOf r
 
--- What send asks of a record: today no more than that it is good. It has a name of its own, so that send may come to refuse a good
--- record, which then stays good where it is carried and in a sound ring.
-abbrev pub sendVerdict : BatchRecord → Verdict
-sendVerdict r = verdictOf r
+-- A name of n bytes begins or ends with a blank: its first byte is one, or its last, the one at n - 1. An empty name has neither.
+unfoldable pub blankAtEnd : ℕ → List ℕ → Bool
+blankAtEnd n cells = not (isZero n) && (isBlank (getD cells 0 0) || isBlank (getD cells (n - 1) 0))
+
+unfoldable pub blankEnds : BatchRecord → Bool
+blankEnds r = blankAtEnd (r .«name_length») (r .name)
+
+-- one verdict, then another: the first refusal of the two
+abbrev pub andThen : Verdict → Verdict → Verdict
+andThen Good later = later
+andThen (Refused r) later = Refused r
+
+-- What send asks of a record: that it is good, and then that its name has no blank at an end: 11, 12, 13, 14, 30. A good record with a
+-- blank there stays good where it is offered or carried, so in a sound ring, and in the history.
+unfoldable pub sendVerdict : BatchRecord → Verdict
+sendVerdict r = andThen (verdictOf r) (unless (not (blankEnds r)) (Refused BlankEnd) Good)
 
 -- a record is good exactly when no refusal applies
 abbrev pub GoodExactly : Type 0
@@ -117,6 +135,13 @@ GoodExactly = (r : BatchRecord) → (goodRecord r ≡ true) ↔ (verdictOf r ≡
 -- and exactly when its number is 0
 abbrev pub GoodIsZero : Type 0
 GoodIsZero = (r : BatchRecord) → (goodRecord r ≡ true) ↔ (verdictNumber (verdictOf r) ≡ 0)
+
+-- send takes exactly the good records without a blank at an end of their name, and refuses exactly the other good ones with 30
+abbrev pub SentExactly : Type 0
+SentExactly = (r : BatchRecord) → (sendVerdict r ≡ Good) ↔ ((goodRecord r ≡ true) × (blankEnds r ≡ false))
+
+abbrev pub Means30 : Type 0
+Means30 = (r : BatchRecord) → (sendVerdict r ≡ Refused BlankEnd) ↔ ((goodRecord r ≡ true) × (blankEnds r ≡ true))
 
 -- a good record has a batch number
 abbrev pub GoodNumber : Type 0

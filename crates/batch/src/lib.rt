@@ -1,11 +1,13 @@
 // The batch record that a channel carries, what makes one good, and when two are of the same batch.
 // Each function answers what its definition in specs/ says, of every value: a record is good or is refused
-// with the first refusal that applies. The limits of document 01 are constants of the record; a name has 32 cells.
+// with the first refusal that applies. What send asks besides is a verdict of its own: a record that it refuses with 30 is good. The limits
+// of document 01 are constants of the record; a name has 32 cells.
 use refusal::Refusal;
 ghost use mathlib.Core.Path.{_≡_};
 ghost use mathlib.Core.Bool.{cond};
+ghost use Prim.Native.Nat.{_≤_};
 ghost use lib.ListN as ListN;
-ghost use Rattle.batch.specs.Good.{every, inRange, isZero, isCharacter, nameLimit, nameCellsGood, recordOf, verdictOf, verdictNumber, goodRecord};
+ghost use Rattle.batch.specs.Good.{every, inRange, isZero, isCharacter, nameLimit, nameCellsGood, recordOf, verdictOf, verdictNumber, goodRecord, blankAtEnd, sendVerdict};
 ghost use Rattle.batch.specs.Blank.{noRecord};
 ghost use Rattle.batch.specs.Same.{sameBatch};
 
@@ -40,6 +42,9 @@ impl BatchRecord {
     pub const FIRST_CHARACTER: u8 = 0x20;
 
     pub const LAST_CHARACTER: u8 = 0x7E;
+
+    // What a name in a send has at neither end.
+    pub const BLANK: u8 = 0x20;
 
     // What a cell that holds no record has: every field zero.
     pub fn none() -> BatchRecord
@@ -217,6 +222,35 @@ pub fn judge(record: BatchRecord) -> Verdict
         record.name_length,
         &name,
     )
+}
+
+// Whether a name of so many characters begins or ends with a blank. An empty name does neither.
+fn blank_at_end(length: u8, name: &[u8]) -> bool
+    requires { ⌜ ListN.length (now name) ≡ nameLimit ⌝ }
+    requires { ⌜ length ≤ nameLimit ⌝ }
+    ensures { λ r. ⌜ r ≡ blankAtEnd length (now (name .entry)) ⌝ }
+{
+    if length == 0 {
+        return false;
+    }
+    let last = (length - 1) as usize;
+    name[0] == BatchRecord::BLANK || name[last] == BatchRecord::BLANK
+}
+
+// The first refusal that applies to a record in a send: what is asked of every record, and then of the ends of its name.
+pub fn judge_sent(record: BatchRecord) -> Verdict
+    ensures { λ r. ⌜ r ≡ sendVerdict «record» ⌝ }
+    ensures { λ r. ⌜ verdictNumber r ≡ verdictNumber (sendVerdict «record») ⌝ }
+{
+    let verdict = judge(record);
+    if let Verdict::Refused(refusal) = verdict {
+        return Verdict::Refused(refusal);
+    }
+    let name = record.name;
+    if blank_at_end(record.name_length, &name) {
+        return Verdict::Refused(Refusal::BlankEnd);
+    }
+    Verdict::Good
 }
 
 // Whether no refusal applies to a record of these fields: for a record that is still in its bytes.

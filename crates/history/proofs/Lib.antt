@@ -1,3 +1,4 @@
+pub mod BlankEnds
 pub mod Bits
 pub mod Found
 pub mod Readings

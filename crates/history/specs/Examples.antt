@@ -176,6 +176,15 @@ pub record RecordFirst : Type 0 where
   pub answered : outcomes badRecords full ≡ 11 ∷ 12 ∷ 13 ∷ 14 ∷ 29 ∷ []
   pub as-before : tableAfter badRecords full ≡ full
 
+-- the names `A` with a blank behind it, and one blank: good records, though no send takes them
+abbrev pub blankEnded : List Call
+blankEnded =
+    noting (recordOf 7 3 (pos 612) 2 (0x41 ∷ 0x20 ∷ replicate 30 0)) ∷ noting (recordOf 7 3 (pos 613) 1 (0x20 ∷ replicate 31 0)) ∷ []
+
+pub record BlankEndsNoted : Type 0 where
+  pub answered : outcomes blankEnded emptyTable ≡ 0 ∷ 0 ∷ []
+  pub taken : rowAt 0 (after blankEnded) ≡ row 7 2 (pos 612 ∷ pos 613 ∷ zeros 22)
+
 -- ---- unsound tables: every call is refused with 25 and changes nothing, also where the record is bad or the batch has no row
 pub record Says25 (t : List Row) : Type 0 where
   pub called : (a : Call) → made a t ≡ refused UnsoundRing t

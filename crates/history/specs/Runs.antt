@@ -1,19 +1,23 @@
 -- What a history promises over a run: for every list of notes and closes from the empty table, the readings of every batch are the last 24 of
--- the temperatures accepted for it since its last close, oldest first; and its figures are those of these readings. Assumes nothing.
+-- the temperatures accepted for it since its last close, oldest first; and its figures are those of these readings. A record that send
+-- refuses for the ends of its name is taken as any good one. Assumes nothing.
 use Prim.Native.Nat.{ℕ}
 use mathlib.Core.Path.{_≡_}
 use mathlib.Core.Logic.{_≢_}
-use mathlib.Core.Bool.{true, cond}
+use mathlib.Core.Bool.{true, cond, _||_}
 use mathlib.Core.List.{List, [], _∷_, _++_}
 use lib.Dec.{eqb}
 use lib.IntN.{ℤ}
 use lib.ListN.{getD}
+use Rattle.refusal.specs.declared.Refusal.the-variants.{BlankEnd}
 use Rattle.batch.specs.declared.BatchRecord.{BatchRecord}
+use Rattle.batch.specs.declared.Verdict.the-variants.{Refused as Bad}
+use Rattle.batch.specs.Good.{sendVerdict}
 use Rattle.history.specs.declared.Outcome.{Outcome}
 use Rattle.history.specs.declared.Outcome.the-variants.{Done, Refused}
 use Rattle.history.specs.declared.Row.{Row}
-use Rattle.history.specs.Table.{readingLimit, emptyRow, emptyTable, soundTable, readingsIn}
-use Rattle.history.specs.History.{Result, note, close, figures, figuresOf, lastOf}
+use Rattle.history.specs.Table.{readingLimit, emptyRow, emptyTable, soundTable, hasRow, hasEmpty, readingsIn}
+use Rattle.history.specs.History.{Result, done, note, withReading, close, figures, figuresOf, lastOf}
 
 -- a call that may change the table
 pub data Call : Type 0 where
@@ -62,3 +66,10 @@ batchOf (closing b) = b
 
 abbrev pub OthersUntouched : Type 0
 OthersUntouched = (a : Call) (t : List Row) (b : ℕ) → batchOf a ≢ b → readingsIn b (made a t .table) ≡ readingsIn b t
+
+-- The history takes what send refuses with 30: on a sound table where its batch has a row, or a row is empty, the batch has one reading more.
+abbrev pub TakesBlankEnds : Type 0
+TakesBlankEnds =
+    (x : BatchRecord) (t : List Row) →
+    sendVerdict x ≡ Bad BlankEnd → soundTable t ≡ true → (hasRow (x .batch .0) t || hasEmpty t) ≡ true →
+    note x t ≡ done (withReading (x .batch .0) (x .temperature) t)

@@ -1,5 +1,7 @@
--- Ground: the worked lists of deeds, case splits, node and channel numbers as plain ones, sums and counts, and tests read as statements.
+-- Ground: the worked lists of deeds, the worked sends, case splits, node and channel numbers as plain ones, sums and counts, and tests
+-- read as statements.
 pub mod Deeds
+pub mod BlankEnds
 pub mod Splits
 pub mod Numbers
 pub mod Counting

@@ -1,12 +1,12 @@
 -- The edges P1 to P11 of document 01 as one table, and its two worked runs, the one of the tape and the turn case, as lists of calls with
--- what they answer. All are asked of what the contracts cite: the calls on the ring in memory, `hops` and `verdictOf`. Assumes nothing.
+-- what they answer. All are asked of what the contracts cite: the calls on the ring in memory, `hops` and `sendVerdict`. Assumes nothing.
 use Prim.Native.Nat.{ℕ, _<_}
 use mathlib.Core.Path.{_≡_}
 use mathlib.Core.List.{List, [], _∷_, _++_, map}
 use lib.IntN.{ℤ, pos, negℤ}
 use lib.ListN.{length, getD, replicate}
 use Rattle.batch.specs.declared.BatchRecord.{BatchRecord}
-use Rattle.batch.specs.Good.{verdictOf, verdictNumber}
+use Rattle.batch.specs.Good.{verdictNumber, sendVerdict}
 use Rattle.numbers.specs.declared.NodeNo.{NodeNo}
 use Rattle.numbers.specs.declared.ChannelNo.{ChannelNo}
 use Rattle.hops.specs.Hops.{hops}
@@ -46,8 +46,8 @@ module _ {S : Type 0} (fresh : S) (seen : S → Network) (step : Call → S → 
   abbrev pub ask : Question → ℕ
   ask (starting slots ends) = outcomeNumber (step start (planned slots ends))
   ask (hopsFrom n p q) = hops n p q
-  ask (naming size) = verdictNumber (verdictOf (sample (pos 612) size (replicate 32 0x41)))
-  ask (heating degrees) = verdictNumber (verdictOf (sample degrees 0 (replicate 32 0)))
+  ask (naming size) = verdictNumber (sendVerdict (sample (pos 612) size (replicate 32 0x41)))
+  ask (heating degrees) = verdictNumber (sendVerdict (sample degrees 0 (replicate 32 0)))
   ask (slotting slots) = outcomeNumber (step (addNode slots) fresh)
   ask (counting slots ends) = bound (seen (planned slots ends))
 

@@ -15,5 +15,6 @@ pub mod Promise
 pub mod Dispatcher
 pub mod Edges
 pub mod Withdrawals
+pub mod BlankEnds
 pub mod Rounds
 pub mod Dummies

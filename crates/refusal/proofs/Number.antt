@@ -11,7 +11,7 @@ use Rattle.refusal.specs.declared.Refusal.the-variants.{NothingToStart, 
 use Rattle.refusal.specs.declared.Refusal.the-variants.{BatchNumberZero, TemperatureOutOfRange, NameTooLong, BadName}
 use Rattle.refusal.specs.declared.Refusal.the-variants.{AlreadyOffered, NoSuchNode, LineEmpty, NoFreeSlot, BufferEmpty, NextBufferFull}
 use Rattle.refusal.specs.declared.Refusal.the-variants.{TurnMarkSet, UnknownCommand, CommandCut, PlaceBeyondEnd, UnsoundRing, NoRoomToWrite}
-use Rattle.refusal.specs.declared.Refusal.the-variants.{NotAsking, RequestInBuffer, NoEmptyRow}
+use Rattle.refusal.specs.declared.Refusal.the-variants.{NotAsking, RequestInBuffer, NoEmptyRow, BlankEnd}
 use Rattle.refusal.specs.Number.{numberOf, OneMeaning, InRange}
 
 abbrev refusals : List Refusal
@@ -20,7 +20,8 @@ refusals =
     TooFewSlots ∷ NotStarted ∷ NoSuchChannel ∷ NotResting ∷ BatchNumberZero ∷
     TemperatureOutOfRange ∷ NameTooLong ∷ BadName ∷ AlreadyOffered ∷ NoSuchNode ∷
     LineEmpty ∷ NoFreeSlot ∷ BufferEmpty ∷ NextBufferFull ∷ TurnMarkSet ∷ UnknownCommand ∷
-    CommandCut ∷ PlaceBeyondEnd ∷ UnsoundRing ∷ NoRoomToWrite ∷ NotAsking ∷ RequestInBuffer ∷ NoEmptyRow ∷ []
+    CommandCut ∷ PlaceBeyondEnd ∷ UnsoundRing ∷ NoRoomToWrite ∷ NotAsking ∷ RequestInBuffer ∷
+    NoEmptyRow ∷ BlankEnd ∷ []
 
 -- the refusal of a number
 abbrev caseOf : ℕ → Refusal
@@ -29,7 +30,7 @@ caseOf n = getD refusals (n - 1) AlreadyStarted
 record Known (r : Refusal) : Type 0 where
   back : caseOf (numberOf r) ≡ r
   least : 1 ≤ numberOf r
-  most : numberOf r ≤ 29
+  most : numberOf r ≤ 30
 
 known : (r : Refusal) → Known r
 known AlreadyStarted = record { back = refl; least = lit≤ tt; most = lit≤ tt }
@@ -61,6 +62,7 @@ known NoRoomToWrite = record { back = refl; least = lit≤ tt; most = lit≤ tt 
 known NotAsking = record { back = refl; least = lit≤ tt; most = lit≤ tt }
 known RequestInBuffer = record { back = refl; least = lit≤ tt; most = lit≤ tt }
 known NoEmptyRow = record { back = refl; least = lit≤ tt; most = lit≤ tt }
+known BlankEnd = record { back = refl; least = lit≤ tt; most = lit≤ tt }
 
 pub one-meaning : OneMeaning
 one-meaning a b e = sym (known a .back) ∙ ap caseOf e ∙ known b .back

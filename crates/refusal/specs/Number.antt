@@ -1,5 +1,5 @@
 -- The number of each refusal, as document 01 has it, and what the list promises: no two refusals share a number, and the
--- numbers are 1 to 29. Assumes nothing.
+-- numbers are 1 to 30. Assumes nothing.
 use mathlib.Core.Path.{_≡_}
 use Prim.Native.Nat.{ℕ, _≤_}
 use Rattle.refusal.specs.declared.Refusal.{Refusal}
@@ -8,7 +8,7 @@ use Rattle.refusal.specs.declared.Refusal.the-variants.{NothingToStart, 
 use Rattle.refusal.specs.declared.Refusal.the-variants.{BatchNumberZero, TemperatureOutOfRange, NameTooLong, BadName}
 use Rattle.refusal.specs.declared.Refusal.the-variants.{AlreadyOffered, NoSuchNode, LineEmpty, NoFreeSlot, BufferEmpty, NextBufferFull}
 use Rattle.refusal.specs.declared.Refusal.the-variants.{TurnMarkSet, UnknownCommand, CommandCut, PlaceBeyondEnd, UnsoundRing, NoRoomToWrite}
-use Rattle.refusal.specs.declared.Refusal.the-variants.{NotAsking, RequestInBuffer, NoEmptyRow}
+use Rattle.refusal.specs.declared.Refusal.the-variants.{NotAsking, RequestInBuffer, NoEmptyRow, BlankEnd}
 
 abbrev pub numberOf : Refusal → ℕ
 numberOf AlreadyStarted = 1
@@ -40,11 +40,12 @@ numberOf NoRoomToWrite = 26
 numberOf NotAsking = 27
 numberOf RequestInBuffer = 28
 numberOf NoEmptyRow = 29
+numberOf BlankEnd = 30
 
 -- two refusals never share a number
 abbrev pub OneMeaning : Type 0
 OneMeaning = (a b : Refusal) → numberOf a ≡ numberOf b → a ≡ b
 
--- every number is from 1 to 29
+-- every number is from 1 to 30
 abbrev pub InRange : Type 0
-InRange = (r : Refusal) → (1 ≤ numberOf r) × (numberOf r ≤ 29)
+InRange = (r : Refusal) → (1 ≤ numberOf r) × (numberOf r ≤ 30)

@@ -62,10 +62,12 @@ pub enum Refusal {
     RequestInBuffer,
     // The batch has no row in the history table, and no row is empty.
     NoEmptyRow,
+    // The record's name begins or ends with a blank.
+    BlankEnd,
 }
 
 impl Refusal {
-    // The number of the refusal, from 1 to 29.
+    // The number of the refusal, from 1 to 30.
     pub fn number(self) -> u8
         ensures { λ r. ⌜ r ≡ numberOf self ⌝ }
     {
@@ -99,6 +101,7 @@ impl Refusal {
             Refusal::NotAsking => 27,
             Refusal::RequestInBuffer => 28,
             Refusal::NoEmptyRow => 29,
+            Refusal::BlankEnd => 30,
         }
     }
 }

@@ -11,8 +11,8 @@ use Rattle.refusal.specs.declared.Refusal.{Refusal}
 use Rattle.refusal.specs.declared.Refusal.the-variants.{NotResting, AlreadyOffered}
 use Rattle.batch.specs.declared.BatchRecord.{BatchRecord}
 use Rattle.batch.specs.declared.Verdict.the-variants.{Good, Refused}
-use Rattle.batch.specs.Good.{verdictOf}
-use Rattle.batch.proofs.Good.{good-exactly}
+use Rattle.batch.specs.Good.{sendVerdict}
+use Rattle.batch.proofs.Good.{sent-exactly}
 use Rattle.wire.specs.Record.{RecordFits}
 use Rattle.wire.proofs.Good.{good-fits}
 use Rattle.network.specs.declared.Head.{Head}
@@ -97,7 +97,7 @@ module _ {ring : Ring} {k : ℕ} (h : AtChannel ring k) where
 
   module _ (x : BatchRecord) where
     send-called : Calls.send (channelNo k) x σ
-        ≡ ifGood (verdictOf x)
+        ≡ ifGood (sendVerdict x)
         (unless (absent (channel σ (channelNo k) .offer)) (refused AlreadyOffered) (accepted done (offerTo (channelNo k) x σ)))
     unfolding Calls.send
     send-called = rw (channel-running h, lt-ltb _ _ (channel-there h))
@@ -105,12 +105,12 @@ module _ {ring : Ring} {k : ℕ} (h : AtChannel ring k) where
     send-in-memory : callRing (Runs.send (channelNo k) x) ring ≡ heldOutcome (Calls.send (channelNo k) x σ)
     send-in-memory = sound-called (Runs.send (channelNo k) x) ring (h .ok)
 
-    pub send-bad : (r : Refusal) → verdictOf x ≡ Refused r → callRing (Runs.send (channelNo k) x) ring ≡ refused r
+    pub send-bad : (r : Refusal) → sendVerdict x ≡ Refused r → callRing (Runs.send (channelNo k) x) ring ≡ refused r
     send-bad r bad = send-in-memory ∙ ap heldOutcome send-called ∙ rw bad
 
-    module _ (good : verdictOf x ≡ Good) where
+    module _ (good : sendVerdict x ≡ Good) where
       x-fits : RecordFits x
-      x-fits = good-fits x (good-exactly x .1 good)
+      x-fits = good-fits x (sent-exactly x .0 good .0)
 
       pub send-again : offeredAt (ring .head) k ≢ 0 → callRing (Runs.send (channelNo k) x) ring ≡ refused AlreadyOffered
       send-again has =

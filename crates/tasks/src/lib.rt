@@ -109,7 +109,7 @@ pub fn send(
     if let Opening::Refused(refusal) = opening {
         return refuse(head, refusal);
     }
-    let verdict = batch::judge(record);
+    let verdict = batch::judge_sent(record);
     if let Verdict::Refused(refusal) = verdict {
         return refuse(head, refusal);
     }

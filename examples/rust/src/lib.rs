@@ -13,6 +13,7 @@ pub const HISTORY_ROWS: usize = 128;
 pub const READINGS: usize = 24;
 
 pub const NOT_RESTING: u8 = 10;
+pub const BLANK_END: u8 = 30;
 
 #[repr(C)]
 #[derive(Clone, Copy, PartialEq, Eq, Debug)]

@@ -4,27 +4,51 @@ use crate::model::{Call, Channel, Network, Node, Phase, Record};
 pub use second_model::generate::Random;
 use std::collections::VecDeque;
 
+/// A good record without a blank at an end of its name, so that send takes it.
 pub fn good_record(random: &mut Random) -> Record {
     let drawn = random.between(0, 32);
     let length = random.pick(&[0, drawn, 32]);
     let mut name = [0; 32];
-    name[..length].fill_with(|| random.between(0x20, 0x7E) as u8);
+    let last = length.saturating_sub(1);
+    for (at, byte) in name[..length].iter_mut().enumerate() {
+        let lowest = if at == 0 || at == last { 0x21 } else { 0x20 };
+        *byte = random.between(lowest, 0x7E) as u8;
+    }
     let inside = random.between(0, 1600) as i16 - 400;
     let temperature = random.pick(&[inside, -400, 1200]);
     let batch = random.draw() as u32;
     Record { batch: batch.max(1), vessel: random.byte(), temperature, length: length as u8, name }
 }
 
-/// A record that is often bad, in one way or in several.
+/// A good record that a ring may hold: now and then its name has a blank at an end, from the time before send refused such names.
+fn held_record(random: &mut Random) -> Record {
+    let mut record = good_record(random);
+    if random.percent(40) {
+        put_blank_end(random, &mut record);
+    }
+    record
+}
+
+/// A blank first, last or both in the name; an empty one becomes one blank.
+fn put_blank_end(random: &mut Random, record: &mut Record) {
+    record.length = record.length.max(1);
+    let last = usize::from(record.length).min(32) - 1;
+    for end in random.pick(&[[0, 0], [last, last], [0, last]]) {
+        record.name[end] = b' ';
+    }
+}
+
+/// A record that is often refused, for one reason or for several.
 pub fn record(random: &mut Random) -> Record {
     let mut record = good_record(random);
     while random.percent(25) {
-        match random.below(5) {
+        match random.below(7) {
             0 => record.batch = 0,
             1 => record.temperature = random.pick(&[-401, 1201, i16::MIN, i16::MAX]),
             2 => record.length = random.pick(&[33, 255, record.length.wrapping_add(1)]),
             3 => record.name[random.below(32)] = random.pick(&[0, 0x1F, 0x7F, 0x41, 255]),
-            _ => record.length = record.length.saturating_sub(1),
+            4 => record.length = record.length.saturating_sub(1),
+            _ => put_blank_end(random, &mut record),
         }
     }
     record
@@ -128,7 +152,7 @@ pub fn by_hand(random: &mut Random) -> Network {
             0 => (Phase::Resting, 0, 0),
             1 => (Phase::Asking, receiver, sender),
             2 => (Phase::Ready, 0, 0),
-            _ => (Phase::Answering(good_record(random)), sender, receiver),
+            _ => (Phase::Answering(held_record(random)), sender, receiver),
         };
         if matches!(phase, Phase::Asking | Phase::Answering(_)) {
             let steps = random.below(if entry == target { n } else { (target + n - entry) % n });
@@ -139,7 +163,7 @@ pub fn by_hand(random: &mut Random) -> Network {
                 put(random, &mut nodes[entry].line, k);
             }
         }
-        let offer = (phase != Phase::Ready && random.percent(50)).then(|| good_record(random));
+        let offer = (phase != Phase::Ready && random.percent(50)).then(|| held_record(random));
         channels.push(Channel { sender, receiver, phase, offer });
     }
     for node in &mut nodes {

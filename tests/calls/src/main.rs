@@ -1,8 +1,12 @@
 //! calls COUNT SEED: makes COUNT calls of the library, each also on the model and, where the ring is sound, on the second model, and
 //! compares the answer and every byte of the ring after it.
 //! The rings come from runs from a fresh one, from hand-made ones, and from both with bytes changed. Besides, commands are read and
-//! written. Fails on a difference, when a refusal from 1 to 28 was never answered, and when withdrawals showed too little.
+//! written. Fails on a difference, when a refusal from 1 to 28 or 30 was never answered, and when withdrawals or names (blanks.rs) showed
+//! too little.
 
+mod blanks;
+
+use blanks::Blanks;
 use calls::draw::{self, Random};
 use calls::form::{self, from_c, to_c};
 use calls::model::{Answer, Call, Network};
@@ -38,9 +42,10 @@ impl Withdrawals {
 #[derive(Default)]
 struct Tally {
     calls: u64,
-    refusals: [u64; 29],
+    refusals: [u64; 31],
     deliveries: u64,
     withdrawals: Withdrawals,
+    blanks: Blanks,
     damaged: u64,
     still_sound: u64,
     commands: u64,
@@ -52,15 +57,16 @@ impl Tally {
         println!("{calls} calls, {deliveries} deliveries; {damaged} damaged rings, {still_sound} still sound; {commands} commands read or written");
         let Withdrawals { all, marks_cleared, marks_kept } = self.withdrawals;
         println!("{all} withdrawals: marks cleared {marks_cleared}, marks kept {marks_kept}");
+        self.blanks.print();
         for (number, times) in self.refusals.iter().enumerate().skip(1) {
             print!("{number}:{times} ");
         }
         println!();
     }
 
-    /// What has to be seen and was not.
+    /// What has to be seen and was not. 29 is of the history alone.
     fn missing(&self) -> Vec<String> {
-        let numbers = self.refusals.iter().enumerate().skip(1);
+        let numbers = self.refusals.iter().enumerate().filter(|(number, _)| ![0, 29].contains(number));
         let refusals = numbers.map(|(number, times)| (format!("refusal {number}"), *times));
         let Withdrawals { all, marks_cleared, marks_kept } = self.withdrawals;
         let withdrawals = [
@@ -69,7 +75,7 @@ impl Tally {
             ("a withdrawal of the first that keeps a mark", marks_kept),
         ];
         let withdrawals = withdrawals.map(|(name, times)| (name.to_string(), times));
-        refusals.chain(withdrawals).filter(|(_, times)| *times == 0).map(|(name, _)| name).collect()
+        refusals.chain(withdrawals).chain(self.blanks.sights()).filter(|(_, times)| *times == 0).map(|(name, _)| name).collect()
     }
 }
 
@@ -161,6 +167,9 @@ impl Pair {
         }
         if self.ring.is_sound() != self.model.is_some() {
             return Err(format!("the library says that sound is {}\n{:?}", self.ring.is_sound(), self.ring));
+        }
+        if self.model.is_some() {
+            tally.blanks.call(call, given, &before, &self.ring);
         }
         Ok(())
     }

@@ -1,5 +1,5 @@
-//! Document 01 with requests N1 and N3 of 02 once more, from their text alone: buffers and lines are queues, and a message's way is walked
-//! node by node. Nothing here knows how a ring lies in memory.
+//! Document 01 with requests N1, N3 and N4 of 02 once more, from their text alone: buffers and lines are queues, and a message's way is
+//! walked node by node. Nothing here knows how a ring lies in memory.
 
 use std::collections::VecDeque;
 
@@ -27,6 +27,12 @@ impl Record {
         let (name, fill) = self.name.split_at(self.length.into());
         let good = name.iter().all(|byte| (0x20..=0x7E).contains(byte)) && fill.iter().all(|byte| *byte == 0);
         (!good).then_some(14)
+    }
+
+    /// "A name whose first or last byte is hexadecimal 20", for send alone: "a ring that holds one is still sound". Of a good record.
+    fn has_blank_end(&self) -> bool {
+        let name = &self.name[..self.length.into()];
+        name.starts_with(b" ") || name.ends_with(b" ")
     }
 }
 
@@ -240,6 +246,7 @@ impl Network {
         refuse_if(!self.started, 8)?;
         refuse_if(k >= self.channels.len(), 9)?;
         record.refusal().map_or(Ok(()), Err)?;
+        refuse_if(record.has_blank_end(), 30)?;
         refuse_if(self.channels[k].offer.is_some(), 15)?;
         self.channels[k].offer = Some(record);
         if self.channels[k].phase == Phase::Ready {

@@ -1,7 +1,7 @@
 //! The comparison: rings as the model reaches them and damaged ones, the
 //! verdict of a test on each against the one expected, and what was compared.
 
-use crate::damage::{change_place, change_whole, KINDS};
+use crate::damage::{change_place, change_whole, ALWAYS_SOUND, KINDS};
 use crate::expected;
 use crate::layout::{
     channels, deliveries, lay_out, nodes, record_bytes, Bytes, Each, CAPACITY, CARRIED,
@@ -133,12 +133,18 @@ impl Sums {
         }
     }
 
-    /// What makes the comparison worth little, though nothing differed.
+    /// What makes the comparison worth little, though nothing differed. The rings
+    /// that are changed are sound.
     pub fn faults(&self) -> Vec<String> {
         let kinds = KINDS.iter().zip(&self.kinds);
         let never = kinds.filter(|(_, sum)| sum.made == 0);
         let mut faults: Vec<String> =
             never.map(|(kind, _)| format!("never made: {}", kind.name)).collect();
+        for (kind, KindSum { alone, sound, .. }) in KINDS.iter().zip(&self.kinds) {
+            if ALWAYS_SOUND.contains(&kind.name) && (*alone == 0 || sound < alone) {
+                faults.push(format!("{sound} of {alone} are sound after {}", kind.name));
+            }
+        }
         for (name, count) in [("sound", self.sound), ("unsound", self.rings - self.sound)] {
             if count * LEAST_SHARE < self.rings || count == 0 {
                 faults.push(format!("{count} {name} rings of {} are too few", self.rings));

@@ -6,7 +6,7 @@ use crate::layout::{
     RECORD, SENDERS, SLOTS, SPARE, STARTED, USED, WAITING,
 };
 use second_model::generate::{good_record, Random};
-use second_model::ring::{CHANNELS, SLOTS as ROW};
+use second_model::ring::{BLANK, CHANNELS, SLOTS as ROW};
 
 /// A kind of change. It answers whether it changed the ring: there may be
 /// nothing of the kind to change, or it may draw what is there already.
@@ -22,7 +22,7 @@ const fn kind(name: &'static str, change: fn(&mut Bytes, &mut Random) -> bool) -
 /// The first so many kinds change the whole ring, the others one place.
 pub const WHOLE: usize = 3;
 
-pub const KINDS: [Kind; 29] = [
+pub const KINDS: [Kind; 30] = [
     kind("every byte 0", every_byte_0),
     kind("every byte FF", every_byte_ff),
     kind("every byte drawn", every_byte_drawn),
@@ -52,7 +52,11 @@ pub const KINDS: [Kind; 29] = [
     kind("a field of a record", record_field),
     kind("a record put in", record_put),
     kind("a record taken out", record_taken),
+    kind("a blank at an end of a name", blank_end),
 ];
+
+/// The kinds that, as the only change, leave every sound ring sound.
+pub const ALWAYS_SOUND: [&str; 2] = ["every byte 0", "a blank at an end of a name"];
 
 /// Changes one place and answers the kind of the change.
 pub fn change_place(bytes: &mut Bytes, random: &mut Random) -> usize {
@@ -485,4 +489,23 @@ fn record_taken(bytes: &mut Bytes, random: &mut Random) -> bool {
         bytes[OFFERED + channel] = 0;
     }
     true
+}
+
+/// A blank first, last or both in the name of a record, which is not empty. A
+/// send with such a name is 30 (02, N4), but "a ring that holds one is still
+/// sound".
+fn blank_end(bytes: &mut Bytes, random: &mut Random) -> bool {
+    let Some((part, channel)) = draw_record(bytes, random) else {
+        return false;
+    };
+    let record = &mut bytes[part + channel * RECORD..][..RECORD];
+    let (length, before) = (record[7] as usize, record.to_vec());
+    if !(1..=32).contains(&length) {
+        return false;
+    }
+    let (first, last) = (8, 7 + length);
+    for at in random.pick(&[[first, first], [last, last], [first, last]]) {
+        record[at] = BLANK;
+    }
+    *record != before
 }

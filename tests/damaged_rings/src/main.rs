@@ -1,7 +1,7 @@
 //! damaged_rings COUNT SEED: the proved test for a sound ring against the second
 //! model's, on COUNT rings. Prints what was compared. Ends with failure on a
-//! difference, when a kind of change was never made, and when sound or unsound
-//! rings are fewer than a fifth.
+//! difference, when a kind of change was never made, when one that leaves every
+//! ring sound did not, and when sound or unsound rings are fewer than a fifth.
 
 use damaged_rings::compare::compare;
 use damaged_rings::layout::Bytes;

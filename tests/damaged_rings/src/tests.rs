@@ -2,7 +2,7 @@
 //! verdict is found out.
 
 use crate::compare::{compare, Cases, Sums};
-use crate::damage::KINDS;
+use crate::damage::{ALWAYS_SOUND, KINDS};
 use crate::expected;
 use crate::layout::*;
 use crate::rings::Rings;
@@ -151,6 +151,22 @@ fn what_the_model_judges() {
     assert!(!sound_with(&answering(), &[(LENGTH - 1, 1)]), "the last byte");
 }
 
+/// A blank at an end of a name, offered or carried: sound by 02, N4. Elsewhere in
+/// the record the same byte is not.
+#[test]
+fn a_ring_that_holds_a_blank_end() {
+    for (ring, part) in [(asking(), OFFERS), (answering(), CARRIED)] {
+        let [length, first, last, fill] = [7, 8, 9, 10].map(|at| part + at);
+        assert!(sound_with(&ring, &[(first, b' ')]), "blank first");
+        assert!(sound_with(&ring, &[(last, b' ')]), "blank last");
+        assert!(sound_with(&ring, &[(first, b' '), (last, b' ')]), "two blanks");
+        assert!(sound_with(&ring, &[(length, 1), (first, b' '), (last, 0)]), "one blank");
+        assert!(!sound_with(&ring, &[(fill, b' ')]), "a blank behind the name");
+        assert!(!sound_with(&ring, &[(length, 1), (last, b' ')]), "a blank behind the name");
+        assert!(!sound_with(&ring, &[(first, b' '), (last, 0x7F)]), "a byte that no name has");
+    }
+}
+
 /// A withdrawal made by hand is the model's; one made by half is no sound ring.
 #[test]
 fn a_withdrawal_by_half() {
@@ -286,7 +302,7 @@ fn kinds_that_leave_no_ring_sound() {
         assert!(sum.alone > 50, "{}: {}", kind.name, sum.alone);
         let never = NEVER_SOUND.contains(&kind.name);
         assert_eq!(sum.sound == 0, never, "{}: {} of {}", kind.name, sum.sound, sum.alone);
-        let always = kind.name == "every byte 0";
+        let always = ALWAYS_SOUND.contains(&kind.name);
         assert_eq!(sum.sound == sum.alone, always, "{}", kind.name);
     }
 }
@@ -333,6 +349,12 @@ fn too_little_compared_is_a_fault() {
     let mut sums = stand_in();
     sums.kinds[7].made = 0;
     assert_eq!(sums.faults(), ["never made: the spare byte"]);
+    let blank_end = KINDS.iter().position(|kind| kind.name == "a blank at an end of a name");
+    let mut sums = stand_in();
+    sums.kinds[blank_end.unwrap()].sound -= 1;
+    assert_eq!(sums.faults().len(), 1, "a ring that holds a blank end is unsound");
+    (sums.kinds[blank_end.unwrap()].alone, sums.kinds[blank_end.unwrap()].sound) = (0, 0);
+    assert_eq!(sums.faults(), ["0 of 0 are sound after a blank at an end of a name"]);
     let mut sums = Sums { sound: RINGS / 5 - 1, ..stand_in() };
     assert_eq!(sums.faults().len(), 1, "too few are sound");
     sums.sound = RINGS - RINGS / 5 + 1;
@@ -356,6 +378,22 @@ fn wrong_verdicts_are_found_out() {
     assert_found_out("a sound ring is 255", |bytes| model(bytes).wrapping_neg());
     assert_found_out("an unsound ring is 2", |bytes| 2 - model(bytes));
     assert_found_out("the flags of the offers", |bytes| read_back(bytes).sound() as u8);
+    assert_found_out("an offer with a blank end is none", |bytes| {
+        model(bytes) & !holds_blank_end(bytes, OFFERS) as u8
+    });
+    assert_found_out("a record carried with a blank end is none", |bytes| {
+        model(bytes) & !holds_blank_end(bytes, CARRIED) as u8
+    });
+}
+
+/// Whether a record among these has a name with a blank at an end.
+fn holds_blank_end(bytes: &Bytes, part: usize) -> bool {
+    let blank_ended = |at| {
+        let record = read_record(record_bytes(bytes, part, at));
+        let name = record.name.get(..record.length as usize).unwrap_or_default();
+        name.first() == Some(&b' ') || name.last() == Some(&b' ')
+    };
+    (0..CHANNELS).any(blank_ended)
 }
 
 /// Tests that do not look at some byte: each judges the ring as if there were 0.

@@ -4,13 +4,13 @@ use crate::compare::Outcome;
 use crate::singly::{enough, on_ring, Kind, Rounds, Try};
 use damaged_rings::damage::KINDS;
 use std::collections::BTreeMap;
-use vessel_ring::Ring;
+use vessel_ring::{Record, Ring};
 
 /// How many rounds are given: of a ring that makes so many, at least three, so that all of these differ.
 pub const GIVENS: [&str; 8] = ["0", "1", "made - 1", "made", "made + 1", "enough", "65535", "drawn"];
 
 /// What calls have to show.
-const SIGHTS: [&str; 52] = [
+const SIGHTS: [&str; 54] = [
     "a ring of a tiny plan",
     "a ring of a drawn run",
     "a ring made by hand",
@@ -54,6 +54,8 @@ const SIGHTS: [&str; 52] = [
     "deliveries: on a same-node channel",
     "deliveries: the channel's next record stays offered",
     "deliveries: the ring's count stops",
+    "deliveries: a name with a blank at an end, carried before the call",
+    "deliveries: a name with a blank at an end, offered before the call",
     "acts: a call refused with 8, before the start",
     "acts: a record delivered by a call, held by a ring that was made by hand",
     "acts: a record matched before one call and delivered by another",
@@ -84,6 +86,12 @@ pub struct Seen<'a> {
     pub given: u16,
     pub outcome: &'a Outcome,
     pub rounds: Option<&'a Rounds>,
+}
+
+/// Such a name is refused by send (02's N4), but a ring may hold it.
+fn has_blank_end(record: &Record) -> bool {
+    let name = &record.name[..record.name_length.into()];
+    name.starts_with(b" ") || name.ends_with(b" ")
 }
 
 impl Tally {
@@ -195,6 +203,11 @@ impl Tally {
         self.see(channels.iter().any(|&k| after.offered[k] == 1), "deliveries: the channel's next record stays offered");
         let stopped = u64::from(ring.deliveries) + channels.len() as u64 > u64::from(u32::MAX);
         self.see(stopped, "deliveries: the ring's count stops");
+        for (channel, _) in answer.deliveries().filter(|(_, record)| has_blank_end(record)) {
+            let carried = ring.phases[usize::from(channel)] == 3;
+            self.see(carried, "deliveries: a name with a blank at an end, carried before the call");
+            self.see(!carried, "deliveries: a name with a blank at an end, offered before the call");
+        }
     }
 
     pub fn print(&self) {

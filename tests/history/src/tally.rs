@@ -3,12 +3,13 @@
 use crate::damage::KINDS;
 use crate::draw::Call;
 use crate::lists::Lists;
+use second_model::ring::Record;
 use std::collections::BTreeMap;
 use std::fmt::Display;
 use vessel_ring::{Row, HISTORY_ROWS, READINGS};
 
 /// What accepted calls have to show.
-const SIGHTS: [&str; 21] = [
+const SIGHTS: [&str; 24] = [
     "note: a first reading",
     "note: of several empty rows the lowest, with rows in use behind it",
     "note: the row that a close of a full table left, between others",
@@ -20,6 +21,9 @@ const SIGHTS: [&str; 21] = [
     "note: a temperature of -400",
     "note: a temperature of 1200",
     "note: batch 4294967295",
+    "note: a name with a blank first, not last",
+    "note: a name with a blank last, not first",
+    "note: a name of one blank",
     "close: the first row",
     "close: a row between others",
     "close: the last row",
@@ -32,7 +36,7 @@ const SIGHTS: [&str; 21] = [
     "figures: none, batch 0",
 ];
 
-/// The refusals that these calls have.
+/// The refusals that these calls have. A name with a blank at an end is none of them: 30 is of send alone (02's N4).
 const REFUSALS: [u8; 6] = [11, 12, 13, 14, 25, 29];
 /// The refusals of a bad record.
 const BAD_RECORD: [u8; 4] = [11, 12, 13, 14];
@@ -124,16 +128,22 @@ impl Tally {
 
     pub fn accepted(&mut self, seen: &Seen) {
         match seen.call {
-            Call::Note(record) => self.noted(seen, record.number.0, record.temperature),
+            Call::Note(record) => self.noted(seen, &record),
             Call::Close(batch) => self.closed(seen, batch),
             Call::Figures(batch) => self.asked(seen, batch),
         }
     }
 
-    fn noted(&mut self, seen: &Seen, batch: u32, temperature: i16) {
-        self.see(temperature == -400, "note: a temperature of -400");
-        self.see(temperature == 1200, "note: a temperature of 1200");
+    fn noted(&mut self, seen: &Seen, record: &Record) {
+        let batch = record.number.0;
+        self.see(record.temperature == -400, "note: a temperature of -400");
+        self.see(record.temperature == 1200, "note: a temperature of 1200");
         self.see(batch == u32::MAX, "note: batch 4294967295");
+        let name = &record.name[..record.length.into()];
+        let (first, last) = (name.starts_with(b" "), name.ends_with(b" "));
+        self.see(first && !last, "note: a name with a blank first, not last");
+        self.see(last && !first, "note: a name with a blank last, not first");
+        self.see(name == b" ", "note: a name of one blank");
         match row_of(seen.before, batch) {
             Some(at) => self.noted_more(seen, at),
             None => self.noted_first(seen, row_of(seen.after, batch)),

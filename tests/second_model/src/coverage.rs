@@ -1,9 +1,10 @@
-//! What a tape shows of withdrawals, seen by following it once more. It is apart
-//! from the listing, so that the listing costs what it did.
+//! What a tape shows of withdrawals and of the ends of names, seen by following it
+//! once more. It is apart from the listing, so that the listing costs what it did.
 
 use crate::listing::{apply, TAPE_LIMIT};
 use crate::ring::{
-    Channel, ChannelNumber, Delivery, NodeNumber, Refusal, Ring, ANSWERING, ASKING, CHANNELS, SLOTS,
+    Channel, ChannelNumber, Delivery, NodeNumber, Refusal, Ring, ANSWERING, ASKING, BLANK, CHANNELS,
+    SLOTS,
 };
 use crate::tape::{self, Command, Read};
 
@@ -55,7 +56,19 @@ struct Watch {
     blocked: Option<(NodeNumber, bool)>,
 }
 
-/// Follows a tape from a fresh ring, as far as it is run.
+/// Follows a tape from a fresh ring, as far as it is run: `make` gets the ring and
+/// makes the command's call on it.
+fn follow(tape: &[u8], mut make: impl FnMut(&mut Ring, &Command)) {
+    let mut ring = Ring::fresh();
+    let mut place = 0;
+    let run = if tape.len() > TAPE_LIMIT { &[] } else { tape };
+    while let Ok(Read::Command(command, next)) = tape::read(run, place) {
+        make(&mut ring, &command);
+        place = next;
+    }
+}
+
+/// What a tape shows of withdrawals.
 pub fn withdrawals(tape: &[u8]) -> Withdrawals {
     let mut watch = Watch {
         seen: Withdrawals::default(),
@@ -64,21 +77,17 @@ pub fn withdrawals(tape: &[u8]) -> Withdrawals {
         received: [0; CHANNELS],
         blocked: None,
     };
-    let mut ring = Ring::fresh();
-    let mut place = 0;
-    let run = if tape.len() > TAPE_LIMIT { &[] } else { tape };
-    while let Ok(Read::Command(command, next)) = tape::read(run, place) {
-        let waiting = marked_line(&ring, &command);
-        let answer = apply(&mut ring, &command);
+    follow(tape, |ring, command| {
+        let waiting = marked_line(ring, command);
+        let answer = apply(ring, command);
         watch.commands += 1;
-        watch.look_at_turns(&command, &answer);
+        watch.look_at_turns(command, &answer);
         if let Ok(delivery) = answer {
             watch.seen.marks_cleared += (waiting == 1) as u32;
             watch.seen.marks_kept += (waiting > 1) as u32;
-            watch.look_at_matches(&ring, &command, delivery);
+            watch.look_at_matches(ring, command, delivery);
         }
-        place = next;
-    }
+    });
     watch.seen
 }
 
@@ -149,4 +158,70 @@ impl Watch {
             matched.undone += (received > matched.since) as u32;
         }
     }
+}
+
+/// What sends have to show of the ends of names (02, N4).
+pub const NAME_SIGHTS: [&str; 10] = [
+    "30 for a blank first, not last",
+    "30 for a blank last, not first",
+    "30 for a blank first and last, in a longer name",
+    "30 for a name of one blank",
+    "30 for a name of 32 characters",
+    "30 with a record offered, where 15 applies too",
+    "14 for a name with a blank end, where 30 applies too",
+    "0 for an empty name",
+    "0 for a name of 32 characters",
+    "0 for a name with a blank inside only",
+];
+
+/// How often sends showed each of `NAME_SIGHTS`.
+#[derive(Clone, Copy, PartialEq, Eq, Debug, Default)]
+pub struct Names(pub [u32; NAME_SIGHTS.len()]);
+
+impl Names {
+    /// What several tapes show.
+    pub fn add(&mut self, other: &Names) {
+        self.0.iter_mut().zip(other.0).for_each(|(sum, count)| *sum += count);
+    }
+
+    /// A send's name, by its length and cells, whether a record was offered before,
+    /// and the refusal or 0. A length over 32 is 13 and says nothing of ends.
+    pub fn look(&mut self, length: u8, cells: &[u8; 32], offered: bool, answer: u8) {
+        let Some(name) = cells.get(..length as usize) else {
+            return;
+        };
+        let (first, last) = (name.starts_with(&[BLANK]), name.ends_with(&[BLANK]));
+        let holds = [
+            answer == 30 && first && !last,
+            answer == 30 && last && !first,
+            answer == 30 && first && last && name.len() > 1,
+            answer == 30 && name.len() == 1,
+            answer == 30 && name.len() == 32,
+            answer == 30 && offered,
+            answer == 14 && (first || last),
+            answer == 0 && name.is_empty(),
+            answer == 0 && name.len() == 32,
+            answer == 0 && !first && !last && name.contains(&BLANK),
+        ];
+        self.0.iter_mut().zip(holds).for_each(|(count, holds)| *count += holds as u32);
+    }
+}
+
+/// What a tape shows of the ends of names.
+pub fn names(tape: &[u8]) -> Names {
+    let mut seen = Names::default();
+    follow(tape, |ring, command| {
+        let offered = |number: &ChannelNumber| {
+            ring.channels.get(number.0 as usize).is_some_and(|channel| !channel.offer.is_none())
+        };
+        let send = match command {
+            Command::Send(number, record) => Some((record, offered(number))),
+            _ => None,
+        };
+        let answer = apply(ring, command).map_or_else(|refusal| refusal as u8, |_| 0);
+        if let Some((record, offered)) = send {
+            seen.look(record.length, &record.name, offered, answer);
+        }
+    });
+    seen
 }

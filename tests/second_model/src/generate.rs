@@ -5,7 +5,8 @@
 
 use crate::listing::{apply, TAPE_LIMIT};
 use crate::ring::{
-    BatchNumber, ChannelNumber, NodeNumber, Record, Ring, ASKING, CHANNELS, NODES, RESTING, SLOTS,
+    BatchNumber, ChannelNumber, NodeNumber, Record, Ring, ASKING, BLANK, CHANNELS, NODES, RESTING,
+    SLOTS,
 };
 use crate::tape::{self, Command, SEND_WIDTH};
 
@@ -161,12 +162,14 @@ pub fn record_named(name: &[u8]) -> Record {
 
 fn printable(random: &mut Random) -> u8 {
     match random.below(8) {
-        0 => 0x20,
+        0 => BLANK,
         1 => 0x7E,
         _ => random.between(0x20, 0x7E) as u8,
     }
 }
 
+/// A good record, as a ring may hold it and the history takes it: its name may
+/// have a blank at an end.
 pub fn good_record(random: &mut Random) -> Record {
     let mut record = Record::NONE;
     record.number = BatchNumber(match random.below(8) {
@@ -191,6 +194,37 @@ pub fn good_record(random: &mut Random) -> Record {
     };
     for at in 0..record.length as usize {
         record.name[at] = printable(random);
+    }
+    record
+}
+
+/// A good record that a send takes: without a blank at an end of its name. As
+/// many numbers are drawn as for `good_record`, and all else is the same.
+pub fn record_to_send(random: &mut Random) -> Record {
+    let mut record = good_record(random);
+    for end in [0, last_of(&record)] {
+        if record.name[end] == BLANK {
+            record.name[end] = b'A';
+        }
+    }
+    record
+}
+
+/// The place of a name's last byte; 0 of an empty name.
+fn last_of(record: &Record) -> usize {
+    (record.length as usize).saturating_sub(1)
+}
+
+/// A good record with a blank at one end of its name or at both, or with a name
+/// of one blank: 30 to a send.
+fn blank_ended_record(random: &mut Random) -> Record {
+    let mut record = record_to_send(random);
+    if record.length == 0 || random.percent(15) {
+        return Record { length: 1, name: record_named(b" ").name, ..record };
+    }
+    let last = last_of(&record);
+    for end in random.pick(&[[0, 0], [last, last], [0, last]]) {
+        record.name[end] = BLANK;
     }
     record
 }
@@ -318,6 +352,7 @@ fn next_command(ring: &Ring, random: &mut Random, habits: Habits) -> Command {
     match kind {
         0 => receive(channel),
         1 if random.percent(30) => send(channel, bad_record(random)),
+        1 if random.percent(40) => send(channel, blank_ended_record(random)),
         1 => send(channel, good_record(random)),
         2 => enter(node),
         3 => move_at(node),
@@ -345,7 +380,7 @@ fn accepted_command(ring: &Ring, random: &mut Random, kind: usize) -> Option<Com
             .map(receive),
         1 => around(random, ring.channel_count)
             .find(|&at| ring.channels[at as usize].offer.is_none())
-            .map(|at| send(at, good_record(random))),
+            .map(|at| send(at, record_to_send(random))),
         2 => node().find(|&at| enter_looks_good(ring, at)).map(enter),
         3 => node().find(|&at| move_looks_good(ring, at)).map(move_at),
         _ => around(random, ring.channel_count)
@@ -410,9 +445,10 @@ fn wild_command(random: &mut Random) -> Command {
 }
 
 fn wild_record(random: &mut Random) -> Record {
-    match random.below(3) {
+    match random.below(4) {
         0 => good_record(random),
         1 => bad_record(random),
+        2 => blank_ended_record(random),
         _ => Record {
             number: BatchNumber(random.draw() as u32),
             vessel: random.byte(),
@@ -569,6 +605,7 @@ fn same_node_tape(random: &mut Random) -> Vec<u8> {
 fn aimed_tapes(random: &mut Random) -> Vec<Vec<u8>> {
     let mut tapes = vec![Vec::new(), listing_tape(), turn_tape(), many_refusals_tape()];
     tapes.extend([freed_move_tape(), kept_mark_tape(), undone_receives_tape(), long_line_tape()]);
+    tapes.push(blank_ends_tape());
     tapes.extend(record_edge_tapes());
     tapes.extend(plan_edge_tapes());
     tapes.extend(size_tapes(random));
@@ -654,6 +691,53 @@ pub fn long_line_tape() -> Vec<u8> {
     writer.bytes
 }
 
+/// Names with a blank at an end, inside or not at all, each sent on a channel of
+/// its own; then two on a channel that has a record offered, and all that was
+/// accepted is delivered.
+pub fn blank_ends_tape() -> Vec<u8> {
+    let records = blank_records();
+    let mut writer = Writer::new();
+    writer.add(add_node(64));
+    records.iter().for_each(|_| writer.add(add_channel(0, 0)));
+    writer.add(Command::Start);
+    let channels = || 0..records.len() as u8;
+    channels().zip(&records).for_each(|(at, &record)| writer.add(send(at, record)));
+    writer.add_all(&[send(0, record_named(b"A ")), send(0, record_named(b"AB"))]);
+    channels().for_each(|at| writer.add_all(&[receive(at), enter(0), move_at(0)]));
+    channels().for_each(|_| writer.add_all(&[enter(0), move_at(0)]));
+    writer.bytes
+}
+
+/// Names with blanks at all places where they matter. The first is accepted, so
+/// that channel 0 of `blank_ends_tape` has a record offered.
+fn blank_records() -> Vec<Record> {
+    let mut last_of_32 = [b'A'; 32];
+    last_of_32[31] = BLANK;
+    let mut first_of_32 = [b'A'; 32];
+    first_of_32[0] = BLANK;
+    let names: [&[u8]; 13] = [
+        b"",
+        b" ",
+        b"A ",
+        b" A",
+        b"A B",
+        &last_of_32,
+        &[b'A'; 32],
+        &first_of_32,
+        &[BLANK; 32],
+        b" A ",
+        b"  ",
+        // A fault of the name or of its fill comes first.
+        b" \x7F",
+        b"\x1F ",
+    ];
+    let mut records: Vec<Record> = names.iter().map(|name| record_named(name)).collect();
+    records.push(Record { length: 33, ..record_named(&last_of_32) });
+    records.push(Record { length: 1, ..record_named(b"A ") });
+    records.push(Record { length: 1, ..record_named(b" A") });
+    records
+}
+
 /// Most refusals on one tape, 27 and 28 among them; a tape has 22 or 23 once, at
 /// its end.
 fn many_refusals_tape() -> Vec<u8> {
@@ -731,17 +815,8 @@ fn edge_records() -> Vec<Record> {
         records.push(Record { length, name: [b'n'; 32], ..plain });
         records.push(Record { length, name: [0; 32], ..plain });
     }
-    for byte in [0x00, 0x1F, 0x20, 0x7E, 0x7F, 0x80, 0xFF] {
-        // Within the name, at its ends, and in the fill behind it.
-        for place in [0, 2, 4, 5, 31] {
-            let mut record = record_named(b"batch");
-            record.name[place] = byte;
-            records.push(record);
-        }
-        let mut full = record_named(&[b'f'; 32]);
-        full.name[31] = byte;
-        records.push(full);
-    }
+    records.extend(name_byte_records());
+    records.extend(blank_records());
     // Several faults at once: the first in the order of 01 is the answer.
     let mut faulty = record_named(&[0x7F; 3]);
     records.push(faulty);
@@ -751,6 +826,23 @@ fn edge_records() -> Vec<Record> {
     records.push(faulty);
     faulty.number = BatchNumber(0);
     records.push(faulty);
+    records
+}
+
+/// A byte at the edges of those that a name may have, at places within the name,
+/// at its ends, and in the fill behind it.
+fn name_byte_records() -> Vec<Record> {
+    let mut records = Vec::new();
+    for byte in [0x00, 0x1F, 0x20, 0x7E, 0x7F, 0x80, 0xFF] {
+        for place in [0, 2, 4, 5, 31] {
+            let mut record = record_named(b"batch");
+            record.name[place] = byte;
+            records.push(record);
+        }
+        let mut full = record_named(&[b'f'; 32]);
+        full.name[31] = byte;
+        records.push(full);
+    }
     records
 }
 

@@ -1,6 +1,6 @@
 //! The tape program of document 01 as a function: a tape in, its listing out.
 
-use crate::ring::{Delivery, Refusal, Ring};
+use crate::ring::{Delivery, Refusal, Ring, REFUSAL_NUMBERS};
 use crate::tape::{self, Command, Read};
 
 /// "takes a tape of at most 60,000 bytes"
@@ -24,13 +24,18 @@ pub struct Totals {
     pub refused: u32,
     pub delivered: u32,
     /// How often each refusal number was answered.
-    pub refusals: [u32; 29],
+    pub refusals: [u32; REFUSAL_NUMBERS],
 }
 
 /// Runs a tape from a fresh ring and puts its listing behind what `out` holds.
 pub fn run(tape: &[u8], out: &mut Vec<u8>) -> Totals {
-    let mut totals =
-        Totals { too_long: false, accepted: 0, refused: 0, delivered: 0, refusals: [0; 29] };
+    let mut totals = Totals {
+        too_long: false,
+        accepted: 0,
+        refused: 0,
+        delivered: 0,
+        refusals: [0; REFUSAL_NUMBERS],
+    };
     if tape.len() > TAPE_LIMIT {
         totals.too_long = true;
         out.extend_from_slice(TOO_LONG);

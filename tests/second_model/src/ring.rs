@@ -28,7 +28,7 @@ pub struct ChannelNumber(pub u8);
 pub struct BatchNumber(pub u32);
 
 /// The refusals of document 01, with its numbers; 27 and 28 are of 02's N1, 29 of
-/// its N2.
+/// its N2, 30 of its N4.
 #[derive(Clone, Copy, PartialEq, Eq, Debug)]
 #[repr(u8)]
 pub enum Refusal {
@@ -61,7 +61,11 @@ pub enum Refusal {
     NotAsking = 27,
     RequestInBuffer = 28,
     NoEmptyRow = 29,
+    BlankEnd = 30,
 }
+
+/// A table by refusal number has so many places; place 0 is of no refusal.
+pub const REFUSAL_NUMBERS: usize = Refusal::BlankEnd as usize + 1;
 
 pub(crate) fn require(condition: bool, else_refused: Refusal) -> Result<(), Refusal> {
     if condition {
@@ -86,6 +90,9 @@ pub struct Record {
     pub name: [u8; 32],
 }
 
+/// The blank, the lowest byte that a name may have.
+pub const BLANK: u8 = 0x20;
+
 /// Any 32 neighbours of it mark the bytes of a name (FF), then the fill (0).
 const NAME_THEN_FILL: [u8; 64] = {
     let mut marks = [0; 64];
@@ -101,9 +108,10 @@ impl Record {
     pub const NONE: Record =
         Record { number: BatchNumber(0), temperature: 0, vessel: 0, length: 0, name: [0; 32] };
 
-    /// A good record, or the first refusal of "Send" that is about the record:
+    /// A good record, or the first refusal of "Send" that says why it is none:
     /// "11 batch number 0; 12 temperature out of range; 13 name length over 32;
-    /// 14 a name byte or the fill is wrong".
+    /// 14 a name byte or the fill is wrong". 30 is not among them: by 02, N4, a
+    /// ring may hold such a record and "the history still takes them".
     pub fn check(&self) -> Result<(), Refusal> {
         require(self.number.0 != 0, Refusal::BatchNumberZero)?;
         require(TEMPERATURES.contains(&self.temperature), Refusal::TemperatureOutOfRange)?;
@@ -123,6 +131,13 @@ impl Record {
             wrong |= (printable ^ in_name) | (byte & !in_name);
         }
         wrong == 0
+    }
+
+    /// 02, N4: "A name whose first or last byte is hexadecimal 20". The name is
+    /// the first length bytes; an empty one has no ends. For a good record.
+    fn blank_end(&self) -> bool {
+        let name = &self.name[..self.length as usize];
+        name.first() == Some(&BLANK) || name.last() == Some(&BLANK)
     }
 
     pub fn is_none(&self) -> bool {
@@ -327,13 +342,14 @@ impl Ring {
     }
 
     /// "Send: 8; 9; 11 ...; 12 ...; 13 ...; 14 ...; 15 a record is already
-    /// offered." Then "the record is offered. If the channel is ready, it
-    /// becomes answering".
+    /// offered", with 02's N4: "30, after 14 and before 15". Then "the record is
+    /// offered. If the channel is ready, it becomes answering".
     pub fn send(&mut self, number: ChannelNumber, record: &Record) -> Result<(), Refusal> {
         self.require_sound()?;
         self.require_started()?;
         self.require_channel(number)?;
         record.check()?;
+        require(!record.blank_end(), Refusal::BlankEnd)?;
         let channel = &mut self.channels[number.0 as usize];
         require(channel.offer.number.0 == 0, Refusal::AlreadyOffered)?;
         channel.offer = *record;

@@ -2,7 +2,7 @@
 //! what it says of every ring, on rings of drawn tapes.
 
 use second_model::dispatch::Dispatched;
-use second_model::generate::{good_record, record_named, Random, Tapes};
+use second_model::generate::{record_named, record_to_send, Random, Tapes};
 use second_model::listing::apply;
 use second_model::ring::*;
 use second_model::tape::{self, Command, Read};
@@ -237,7 +237,7 @@ fn drawn_rings() {
 /// More requests and records, as many as are accepted.
 fn load(ring: &mut Ring, random: &mut Random) {
     for channel in (0..ring.channel_count).map(ChannelNumber) {
-        let _ = apply(ring, &Command::Send(channel, good_record(random)));
+        let _ = apply(ring, &Command::Send(channel, record_to_send(random)));
         if random.percent(80) {
             let _ = apply(ring, &Command::Receive(channel));
         }

@@ -173,7 +173,7 @@ fn p6_to_p9_records() {
         (temperature(1201), Err(Refusal::TemperatureOutOfRange)),
         (temperature(-401), Err(Refusal::TemperatureOutOfRange)),
         (record_named(b""), Ok(())),
-        (record_named(b" ~"), Ok(())),
+        (record_named(b"~ ~"), Ok(())),
         (record_named(b"\x1f"), Err(Refusal::NameWrong)),
         (record_named(b"\x7f"), Err(Refusal::NameWrong)),
         (Record { length: 1, ..record_named(b"A1") }, Err(Refusal::NameWrong)),

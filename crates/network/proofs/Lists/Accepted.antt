@@ -12,8 +12,8 @@ use lib.ListN.{length}
 use borrow.Author.Tests.{ltb-true, eq-eqb, ne-eqb, not-true}
 use Rattle.refusal.specs.declared.Refusal.{Refusal}
 use Rattle.batch.specs.declared.BatchRecord.{BatchRecord}
-use Rattle.batch.specs.Good.{goodRecord, verdictOf}
-use Rattle.batch.proofs.Good.{good-exactly}
+use Rattle.batch.specs.Good.{goodRecord, sendVerdict}
+use Rattle.batch.proofs.Good.{sent-exactly}
 use Rattle.numbers.specs.declared.NodeNo.{NodeNo}
 use Rattle.numbers.specs.declared.ChannelNo.{ChannelNo}
 use Rattle.hops.specs.Hops.{next}
@@ -107,9 +107,9 @@ module _ (L : Limits) (σ : Network) (h : Started L σ) where
   unfolding Calls.send
   send-did k x =
       if-there (k .0) (channelCount σ) _ _ _ λ lk.
-      if-good (verdictOf x) _ λ g.
+      if-good (sendVerdict x) _ λ g.
       if-met (absent (channel σ k .offer)) _ _ λ a.
-      was-done (offered lk (good-exactly x .1 g) (absent-is _ a) (isReady (channel σ k .phase)) refl)
+      was-done (offered lk (sent-exactly x .0 g .0) (absent-is _ a) (isReady (channel σ k .phase)) refl)
     where
       offered : k .0 < channelCount σ → goodRecord x ≡ true → channel σ k .offer ≡ none →
           (b : Bool) → isReady (channel σ k .phase) ≡ b →

@@ -2,7 +2,7 @@
 -- They stand before all that is shown of the dispatcher, so that a wrong one is told by its example. Assumes nothing.
 use mathlib.Core.Path.{refl}
 use mathlib.Core.Bool.{Bool, true}
-use Rattle.batch.specs.Good.{verdictOf, batchGood, tempGood, nameLengthGood, nameGood, widthsGood, nameCellsGood}
+use Rattle.batch.specs.Good.{blankAtEnd, blankEnds, sendVerdict, verdictOf, batchGood, tempGood, nameLengthGood, nameGood, widthsGood, nameCellsGood}
 use Rattle.hops.specs.Hops.{next}
 use Rattle.network.specs.Counting.{sum}
 use Rattle.network.specs.Network.{Network, fresh}
@@ -15,7 +15,7 @@ use Rattle.network.specs.Rounds.{RoundsTold, ActsSpelled, RefusesRounds}
 -- the test for 25 is left out here: the rings of the examples are sound
 
 pub rounds-told : RoundsTold fresh (λ σ. true) (λ σ. σ) (call ringLimits)
-unfolding sum next verdictOf batchGood tempGood nameLengthGood nameGood widthsGood nameCellsGood arrival Calls.addNode Calls.addChannel Calls.start Calls.receive Calls.send Calls.enter Calls.move
+unfolding sum next sendVerdict blankEnds blankAtEnd verdictOf batchGood tempGood nameLengthGood nameGood widthsGood nameCellsGood arrival Calls.addNode Calls.addChannel Calls.start Calls.receive Calls.send Calls.enter Calls.move
 rounds-told =
     record {
       not-started = record { is-told = refl; is-left = refl };
@@ -36,7 +36,7 @@ rounds-told =
     }
 
 pub acts-spelled : ActsSpelled fresh (λ σ. true) (λ σ. σ) (call ringLimits)
-unfolding sum next verdictOf batchGood tempGood nameLengthGood nameGood widthsGood nameCellsGood arrival Calls.addNode Calls.addChannel Calls.start Calls.receive Calls.send Calls.enter Calls.move
+unfolding sum next sendVerdict blankEnds blankAtEnd verdictOf batchGood tempGood nameLengthGood nameGood widthsGood nameCellsGood arrival Calls.addNode Calls.addChannel Calls.start Calls.receive Calls.send Calls.enter Calls.move
 acts-spelled =
     record {
       pair = record { is-spelled = refl; is-handed = refl };

@@ -14,7 +14,7 @@ use borrow.Author.Tests.{eq-eqb}
 use Rattle.refusal.proofs.Number.{in-range}
 use Rattle.batch.specs.declared.BatchRecord.{BatchRecord}
 use Rattle.numbers.specs.declared.ChannelNo.{ChannelNo}
-use Rattle.batch.specs.Good.{verdictOf, goodRecord, batchGood, tempGood, nameLengthGood, nameGood, widthsGood, nameCellsGood}
+use Rattle.batch.specs.Good.{blankAtEnd, blankEnds, sendVerdict, verdictOf, goodRecord, batchGood, tempGood, nameLengthGood, nameGood, widthsGood, nameCellsGood}
 use Rattle.hops.specs.Hops.{hops, next}
 use Rattle.network.specs.Counting.{sum, weigh, allBelow}
 use Rattle.network.specs.declared.Ring.{Ring}
@@ -74,7 +74,7 @@ other-values : {s t : Said} → number-of (s .values) ≢ number-of (t .values) 
 other-values differs e = differs (ap (λ (s : Said). number-of (s .values)) e)
 
 pub demand2-rejects : Demand2Rejects
-unfolding number-of begun inLine inBuffer firstLap secondLap sound soundNode soundChannel soundAfter sum weigh allBelow hops next oneMore verdictOf goodRecord batchGood tempGood nameLengthGood nameGood widthsGood nameCellsGood arrival holder hopsOf Calls.addNode Calls.addChannel Calls.start Calls.receive Calls.send Calls.enter Calls.move Calls.hopsLeft
+unfolding number-of begun inLine inBuffer firstLap secondLap sound soundNode soundChannel soundAfter sum weigh allBelow hops next oneMore sendVerdict blankEnds blankAtEnd verdictOf goodRecord batchGood tempGood nameLengthGood nameGood widthsGood nameCellsGood arrival holder hopsOf Calls.addNode Calls.addChannel Calls.start Calls.receive Calls.send Calls.enter Calls.move Calls.hopsLeft
 demand2-rejects =
     record {
       acts-later-laps = exposed actsLaterLaps (move n1) secondLap refl (other-values (λ e. omega (arith, e)));
@@ -135,7 +135,7 @@ not-offered k x next in-order =
     nil≢cons (rw (eq-eqb (k .0) (k .0) refl) at (r .1))
 
 pub demand3-rejects : Demand3Rejects
-unfolding begun inLine inBuffer firstLap secondLap sound soundNode soundChannel soundAfter sum weigh allBelow hops next oneMore verdictOf goodRecord batchGood tempGood nameLengthGood nameGood widthsGood nameCellsGood arrival Calls.addNode Calls.addChannel Calls.start Calls.receive Calls.send Calls.enter Calls.move
+unfolding begun inLine inBuffer firstLap secondLap sound soundNode soundChannel soundAfter sum weigh allBelow hops next oneMore sendVerdict blankEnds blankAtEnd verdictOf goodRecord batchGood tempGood nameLengthGood nameGood widthsGood nameCellsGood arrival Calls.addNode Calls.addChannel Calls.start Calls.receive Calls.send Calls.enter Calls.move
 demand3-rejects =
     record {
       acts-later-laps =
@@ -164,7 +164,7 @@ demand3-rejects =
     same-always (waitingAre w) next served in-order = no-delivery (waitingAre w) next refl served
 
 pub each-can-fail : EachCanFail
-unfolding number-of broken begun inLine sound soundNode soundChannel soundBefore soundAfter sum weigh allBelow hops verdictOf goodRecord batchGood tempGood nameLengthGood nameGood widthsGood nameCellsGood holder hopsOf hold holdHead Calls.addNode Calls.addChannel Calls.start Calls.receive Calls.send Calls.hopsLeft
+unfolding number-of broken begun inLine sound soundNode soundChannel soundBefore soundAfter sum weigh allBelow hops sendVerdict blankEnds blankAtEnd verdictOf goodRecord batchGood tempGood nameLengthGood nameGood widthsGood nameCellsGood holder hopsOf hold holdHead Calls.addNode Calls.addChannel Calls.start Calls.receive Calls.send Calls.hopsLeft
 each-can-fail =
     record {
       refuses-unsound = λ h. let e : _≡_ {A = ℕ} 1 25 = ap outcomeNumber (h start broken refl) in omega arith;
@@ -184,5 +184,5 @@ each-can-fail =
     }
 
 pub seven-counted : SevenCounted
-unfolding begun inLine sum hops next oneMore verdictOf goodRecord batchGood tempGood nameLengthGood nameGood widthsGood nameCellsGood arrival Calls.addNode Calls.addChannel Calls.start Calls.receive Calls.send Calls.enter Calls.move
+unfolding begun inLine sum hops next oneMore sendVerdict blankEnds blankAtEnd verdictOf goodRecord batchGood tempGood nameLengthGood nameGood widthsGood nameCellsGood arrival Calls.addNode Calls.addChannel Calls.start Calls.receive Calls.send Calls.enter Calls.move
 seven-counted = record { six = refl; seven = refl; none-before = refl; delivered-then = refl }

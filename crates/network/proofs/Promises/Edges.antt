@@ -8,7 +8,7 @@ use native.Mathlib.Nat.{not-suc-le-zero, le-of-suc-le-suc}
 use lib.Dec.{eqb}
 use lib.ListN.{length, getD}
 use borrow.Author.Tests.{eqb-true}
-use Rattle.batch.specs.Good.{verdictOf, batchGood, tempGood, nameLengthGood, nameGood, widthsGood, nameCellsGood}
+use Rattle.batch.specs.Good.{blankAtEnd, blankEnds, sendVerdict, verdictOf, batchGood, tempGood, nameLengthGood, nameGood, widthsGood, nameCellsGood}
 use Rattle.hops.specs.Hops.{hops, next}
 use Rattle.network.specs.Counting.{sum}
 use Rattle.network.specs.Network.{fresh}
@@ -55,7 +55,7 @@ module _ (calls : List Call) where
       counted-seen ringLimits freshRing soundRing view callRing ring-machine more (run callRing calls freshRing) fresh-sound
       ∙ ap (counted (call ringLimits) more) fresh-run
 
-  number-after : (a : Call) →
+  pub number-after : (a : Call) →
       outcomeNumber (callRing a (run callRing calls freshRing)) ≡ outcomeNumber (call ringLimits a (run (call ringLimits) calls fresh))
   number-after a = ap (λ said. getD said 0 (says 0) .number) (answers-after (a ∷ []))
 
@@ -81,11 +81,11 @@ right-at (e ∷ es) d t zero l = eqb-true _ _ (and-left (right e) (allRight es) 
 right-at (e ∷ es) d t (suc i) l = right-at es d (and-right (right e) (allRight es) t) i (le-of-suc-le-suc l)
 
 pub edges-hold : EdgesHold
-unfolding right allRight edges sum hops verdictOf batchGood tempGood nameLengthGood nameGood widthsGood nameCellsGood Calls.addNode Calls.addChannel Calls.start
+unfolding right allRight edges sum hops sendVerdict blankEnds blankAtEnd verdictOf batchGood tempGood nameLengthGood nameGood widthsGood nameCellsGood Calls.addNode Calls.addChannel Calls.start
 edges-hold i l = asked (getD edges i _ .question) ∙ right-at edges _ refl i l
 
 pub worked-run-holds : WorkedRunHolds
-unfolding sum hops next verdictOf batchGood tempGood nameLengthGood nameGood widthsGood nameCellsGood arrival Calls.addNode Calls.addChannel Calls.start Calls.receive Calls.send Calls.enter Calls.move
+unfolding sum hops next sendVerdict blankEnds blankAtEnd verdictOf batchGood tempGood nameLengthGood nameGood widthsGood nameCellsGood arrival Calls.addNode Calls.addChannel Calls.start Calls.receive Calls.send Calls.enter Calls.move
 worked-run-holds = fresh-answers workedCalls ∙ refl
 
 pub turn-holds : TurnHolds

@@ -102,7 +102,7 @@ module _ (L : Limits) {S : Type 0} (fresh : S) (sound : S → Bool) (seen : S �
   pub counted-seen : (calls : List Call) (s : S) → sound s ≡ true → counted step calls s ≡ counted (call L) calls (seen s)
   counted-seen calls s h = ap countOf (deeds-seen calls s h)
 
-  offered-seen : (k : ChannelNo) (calls : List Call) (s : S) → sound s ≡ true → offeredOn step k calls s ≡ offeredOn (call L) k calls (seen s)
+  pub offered-seen : (k : ChannelNo) (calls : List Call) (s : S) → sound s ≡ true → offeredOn step k calls s ≡ offeredOn (call L) k calls (seen s)
   offered-seen k [] s h = refl
   offered-seen k (a ∷ calls) s h =
       rw (seen-offered seen k a (step a s), step-seen a s h, offered-seen k calls (after s (step a s)) (step-sound a s h), seen-next a s h)

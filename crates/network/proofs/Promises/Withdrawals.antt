@@ -8,7 +8,7 @@ use mathlib.Core.List.{List, [], _∷_, _++_}
 use native.Mathlib.Omega.{arith}
 use lib.Dec.{ltb}
 use borrow.Author.Tests.{lt-ltb, le-ltb, ltb-true}
-use Rattle.batch.specs.Good.{verdictOf, goodRecord, batchGood, tempGood, nameLengthGood, nameGood, widthsGood, nameCellsGood}
+use Rattle.batch.specs.Good.{blankAtEnd, blankEnds, sendVerdict, verdictOf, goodRecord, batchGood, tempGood, nameLengthGood, nameGood, widthsGood, nameCellsGood}
 use Rattle.hops.specs.Hops.{next}
 use Rattle.network.specs.Counting.{sum, weigh, allBelow}
 use Rattle.network.specs.Network.{Network, fresh, nodeNo, timesIn, node, channel}
@@ -39,7 +39,7 @@ module _ {before calls : List Call} where
   count-is e = record { is-counted = counted-after before calls ∙ e }
 
 pub withdrawals-answer : WithdrawalsAnswer
-unfolding sum weigh next verdictOf batchGood tempGood nameLengthGood nameGood widthsGood nameCellsGood arrival Calls.addNode Calls.addChannel Calls.start Calls.receive Calls.send Calls.enter Calls.move Calls.withdraw
+unfolding sum weigh next sendVerdict blankEnds blankAtEnd verdictOf batchGood tempGood nameLengthGood nameGood widthsGood nameCellsGood arrival Calls.addNode Calls.addChannel Calls.start Calls.receive Calls.send Calls.enter Calls.move Calls.withdraw
 withdrawals-answer =
     record {
       not-started = answered refl;
@@ -54,7 +54,7 @@ withdrawals-answer =
     }
 
 pub calls-counted : CallsCounted
-unfolding sum weigh next verdictOf batchGood tempGood nameLengthGood nameGood widthsGood nameCellsGood arrival Calls.addNode Calls.addChannel Calls.start Calls.receive Calls.send Calls.enter Calls.move Calls.withdraw
+unfolding sum weigh next sendVerdict blankEnds blankAtEnd verdictOf batchGood tempGood nameLengthGood nameGood widthsGood nameCellsGood arrival Calls.addNode Calls.addChannel Calls.start Calls.receive Calls.send Calls.enter Calls.move Calls.withdraw
 calls-counted =
     record {
       allowed = ap bound (fresh-run matchedPair) ∙ refl;
@@ -91,13 +91,13 @@ givenUp = run (call ringLimits) (withdraw c0 ∷ []) inLine
 
 stuck : (p : ℕ) →
     (isAccepted (call ringLimits (enter (nodeNo p)) givenUp) || isAccepted (call ringLimits (move (nodeNo p)) givenUp)) ≡ false
-unfolding givenUp begun inLine sum weigh verdictOf batchGood tempGood nameLengthGood nameGood widthsGood nameCellsGood Calls.addNode Calls.addChannel Calls.start Calls.receive Calls.send Calls.enter Calls.move Calls.withdraw
+unfolding givenUp begun inLine sum weigh sendVerdict blankEnds blankAtEnd verdictOf batchGood tempGood nameLengthGood nameGood widthsGood nameCellsGood Calls.addNode Calls.addChannel Calls.start Calls.receive Calls.send Calls.enter Calls.move Calls.withdraw
 stuck zero = refl
 stuck (suc zero) = refl
 stuck (suc (suc p)) = rw (le-ltb (suc (suc p)) 2 (omega arith)) refl
 
 pub exception-needed : ExceptionNeeded
-unfolding givenUp begun inLine sound soundNode soundChannel soundAfter sum weigh allBelow verdictOf goodRecord batchGood tempGood nameLengthGood nameGood widthsGood nameCellsGood Calls.addNode Calls.addChannel Calls.start Calls.receive Calls.send Calls.withdraw
+unfolding givenUp begun inLine sound soundNode soundChannel soundAfter sum weigh allBelow sendVerdict blankEnds blankAtEnd verdictOf goodRecord batchGood tempGood nameLengthGood nameGood widthsGood nameCellsGood Calls.addNode Calls.addChannel Calls.start Calls.receive Calls.send Calls.withdraw
 exception-needed served =
     neither (call ringLimits) c0 workedRecord inLine (withdraw c0 ∷ []) refl
     (λ u. false≢true (sym (stuck (u .at .0)) ∙ u .next-accepted))

@@ -14,7 +14,7 @@ use Rattle.batch.specs.declared.BatchRecord.{BatchRecord}
 use Rattle.batch.specs.Good.{goodRecord}
 use Rattle.hops.specs.Hops.{hops, next}
 use Rattle.network.specs.Counting.{one, count, occupied}
-use Rattle.network.specs.Network.{Phase, resting, asking, ready, answering, moving}
+use Rattle.network.specs.Network.{Phase, resting, asking, ready, answering, moving, fromEnd}
 use Rattle.network.specs.Sound.{isReady, goodOffer, goodCarried}
 use Rattle.network.specs.Calls.{Event}
 use Rattle.network.specs.Runs.{Call}
@@ -266,14 +266,20 @@ module _ (N : Net) where
         (λ _. rw goes (omega (arith, more k, off .nowhere, count-same k)))
         (λ j d i. omega (arith, more j, off .others j i d, count-apart j k d)))
 
-  kept-offer : {σ : State} → Sound N σ → (k : ℕ) (x : BatchRecord) → k < c → goodRecord x ≡ true → isReady (σ .phase k) ≡ false →
+  -- a channel may have other good records: its message, going the same way, may stand where it stands
+  pub kept-records : {σ : State} → Sound N σ → (k : ℕ) (f : Phase) (o : Option BatchRecord) → Good f o →
+      ((a b : ℕ) → fromEnd f a b ≡ fromEnd (σ .phase k) a b) → moving f ≡ moving (σ .phase k) → Sound N (turn k f o σ)
+  kept-records {σ} s k f o good way goes =
+      sound-again s
+      (fit-turn (fit-of s) k f o good
+      (λ p m h. rw (way (sender k) (receiver k), way (receiver k) (sender k)) (s .in-buffer p m k h))
+      (λ p m h. rw (way (sender k) (receiver k)) (s .in-line p m k h)))
+      (upd-at (λ j g. j < c → here N σ j ≡ one (moving g)) k f (σ .phase) (λ l. rw goes (s .once k l)) (λ j _. s .once j))
+
+  pub kept-offer : {σ : State} → Sound N σ → (k : ℕ) (x : BatchRecord) → k < c → goodRecord x ≡ true → isReady (σ .phase k) ≡ false →
       Sound N (turn k (σ .phase k) (some x) σ)
   kept-offer {σ} s k x l good unready =
-      sound-again s
-      (fit-turn (fit-of s) k (σ .phase k) (some x) (good-unready unready good (s .good-carried k l))
-      (λ p m. s .in-buffer p m k)
-      (λ p m. s .in-line p m k))
-      (upd-at (λ j g. j < c → here N σ j ≡ one (moving g)) k (σ .phase k) (σ .phase) (s .once k) (λ j _. s .once j))
+      kept-records s k (σ .phase k) (some x) (good-unready unready good (s .good-carried k l)) (λ _ _. refl) refl
 
   -- the first of a line enters where it may enter, its whole way before it
   kept-enter : {σ : State} → Sound N σ → (p k : ℕ) (ks : List ℕ) → p < n → σ .line p ≡ k ∷ ks → length (σ .buffer p) < slots p →

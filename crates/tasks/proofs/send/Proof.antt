@@ -1,14 +1,10 @@
 -- `tasks::send` meets its contract: each return carries what the tests showed to the law of its case. Assumes nothing.
-use mathlib.Core.Path.{_≡_, refl, sym, _∙_}
-use mathlib.Core.List.{[], _∷_}
-use types.Run.{OneOf, miss}
-use denote.Enum.Declared.{tagOf}
+use mathlib.Core.Path.{_≡_, sym, _∙_}
 use borrow.Author.Needs.{needs}
 use Rattle.batch.specs.declared.BatchRecord.{BatchRecord}
-use Rattle.batch.specs.declared.Verdict.{Verdict}
-use Rattle.batch.specs.declared.Verdict.the-variants.{Good, Refused}
-use Rattle.batch.specs.Good.{verdictOf}
-use Rattle.batch.proofs.Verdict.{the-type}
+use Rattle.batch.specs.declared.Verdict.the-variants.{Good}
+use Rattle.batch.specs.Good.{sendVerdict}
+use Rattle.batch.proofs.Good.{no-refusal}
 use Rattle.network.specs.declared.Ring.{Ring}
 use Rattle.network.specs.Runs
 use Rattle.network.specs.Layout.{ringIn}
@@ -30,16 +26,11 @@ given c = let a = start c .args in ringIn (a .t1) (a .slots .now) (a .lines .now
 at-channel : (c : tie.After-enum-told) → AtChannel (given (c .before .before)) (start (c .before .before) .args .channel .0)
 at-channel c = channel-open _ (c .before .before .open .ensures) (c .before .match .keys2)
 
--- the verdict that is no refusal
-no-refusal : (v : Verdict) → OneOf (0 ∷ []) (tagOf the-type v) → v ≡ Good
-no-refusal Good k = refl
-no-refusal (Refused r) k = absurd (miss (0 ∷ []) 1 tt k)
-
 returns-2 : tie.Need-returns-2
 returns-2 c =
     let told = c .before .before in
     let judged = told .before .before in
-    refuses _ (send-bad (at-channel (judged .before)) _ _ (sym (judged .judge .ensures .0) ∙ told .verdict .given .1)) (c .refuse2 .ensures)
+    refuses _ (send-bad (at-channel (judged .before)) _ _ (sym (judged .judge-sent .ensures .0) ∙ told .verdict .given .1)) (c .refuse2 .ensures)
 
 returns : tie.Need-returns
 returns c =
@@ -48,7 +39,7 @@ returns c =
 
 -- the record is good
 module _ (c : tie.After-struct-known) where
-  abbrev judged : tie.After-judge
+  abbrev judged : tie.After-judge-sent
   judged = c .before .before .before
 
   abbrev there : tie.After-enum-told
@@ -57,8 +48,8 @@ module _ (c : tie.After-struct-known) where
   abbrev sent : BatchRecord
   sent = start (there .before .before) .args .«record»
 
-  good : verdictOf sent ≡ Good
-  good = sym (judged .judge .ensures .0) ∙ no-refusal _ (c .before .before .match2 .keys2)
+  good : sendVerdict sent ≡ Good
+  good = sym (judged .judge-sent .ensures .0) ∙ no-refusal _ (c .before .before .match2 .keys2)
 
   known : AtChannel (given (there .before .before)) (start (there .before .before) .args .channel .0)
   known = at-channel there

@@ -1,12 +1,13 @@
 //! compare PROGRAM [TAPES] [SEED]: runs PROGRAM, a tape program of document 01,
 //! on generated tapes (standard input) and compares what it prints, byte by
 //! byte, with the model's listing. Ends with failure on a difference, when a
-//! refusal number that a tape can reach was not seen, or with too few
-//! deliveries or withdrawals.
+//! refusal number that a tape can reach or a kind of name was not seen, or with
+//! too few deliveries or withdrawals.
 
-use second_model::coverage::{self, Withdrawals};
+use second_model::coverage::{self, Names, Withdrawals, NAME_SIGHTS};
 use second_model::generate::{Random, Tapes, UNDONE_RECEIVES};
 use second_model::listing::{self, Totals, TAPE_LIMIT};
+use second_model::ring::REFUSAL_NUMBERS;
 use std::ffi::{OsStr, OsString};
 use std::io::{Read, Write};
 use std::process::{Child, ChildStdin, Command, ExitCode, Stdio};
@@ -23,6 +24,8 @@ const DELIVERIES_FLOOR: u64 = 20;
 const WITHDRAWALS_FLOOR: u64 = 8;
 /// At least one of so many drawn tapes has a 27, and a 28, in the mean.
 const NOT_WITHDRAWN_EVERY: u64 = 2;
+/// As many 30 as drawn tapes, in the mean.
+const BLANK_ENDS_FLOOR: u64 = 1;
 /// Every so many tapes, and with tapes at the limit, the input arrives in pieces.
 const PIECES_EVERY: usize = 40;
 /// A program that takes longer for one tape counts as different.
@@ -35,8 +38,9 @@ struct Sums {
     too_long: u64,
     commands: u64,
     deliveries: u64,
-    refusals: [u64; 29],
+    refusals: [u64; REFUSAL_NUMBERS],
     withdrawals: Withdrawals,
+    names: Names,
     differences: usize,
 }
 
@@ -47,13 +51,14 @@ impl Sums {
             too_long: 0,
             commands: 0,
             deliveries: 0,
-            refusals: [0; 29],
+            refusals: [0; REFUSAL_NUMBERS],
             withdrawals: Withdrawals::default(),
+            names: Names::default(),
             differences: 0,
         }
     }
 
-    fn add(&mut self, totals: &Totals, withdrawals: &Withdrawals) {
+    fn add(&mut self, totals: &Totals, withdrawals: &Withdrawals, names: &Names) {
         self.tapes += 1;
         self.too_long += totals.too_long as u64;
         self.commands += (totals.accepted + totals.refused) as u64;
@@ -62,6 +67,7 @@ impl Sums {
             *sum += count as u64;
         }
         self.withdrawals.add(withdrawals);
+        self.names.add(names);
     }
 }
 
@@ -113,12 +119,12 @@ fn compare_all(program: &OsStr, tapes: &Tapes, count: usize) -> Sums {
 fn compare_one(program: &OsStr, index: usize, tape: &[u8], sums: &Mutex<Sums>) {
     let mut expected = Vec::new();
     let totals = listing::run(tape, &mut expected);
-    let withdrawals = coverage::withdrawals(tape);
+    let (withdrawals, names) = (coverage::withdrawals(tape), coverage::names(tape));
     let at_the_limit = (TAPE_LIMIT..=TAPE_LIMIT + 1).contains(&tape.len());
     let in_pieces = at_the_limit || index % PIECES_EVERY == 1;
     let result = run_program(program, tape, in_pieces, expected.len());
     let mut sums = sums.lock().unwrap();
-    sums.add(&totals, &withdrawals);
+    sums.add(&totals, &withdrawals, &names);
     let difference = match result {
         Ok(printed) if printed == expected => return,
         Ok(printed) => first_difference(&expected, &printed),
@@ -247,6 +253,9 @@ fn print_sums(sums: &Sums, seed: u64) {
         sums.withdrawals;
     println!("{accepted} withdrawals: marks cleared {marks_cleared}, marks kept {marks_kept}");
     println!("moves freed {freed_moves}; most receives undone before a delivery {most_undone}");
+    for (name, count) in NAME_SIGHTS.iter().zip(sums.names.0) {
+        println!("{name}: {count}");
+    }
 }
 
 fn passed(sums: &Sums, drawn: u64) -> bool {
@@ -256,14 +265,14 @@ fn passed(sums: &Sums, drawn: u64) -> bool {
 }
 
 /// What differs, and what makes the comparison worth little. A tape reaches 1 to
-/// 23, 27 and 28; 24 and 26 belong to places and lent buffers, 25 to a ring that
-/// did not come from these operations, 29 to the history.
+/// 23, 27, 28 and 30; 24 and 26 belong to places and lent buffers, 25 to a ring
+/// that did not come from these operations, 29 to the history.
 fn faults(sums: &Sums, drawn: u64) -> Vec<String> {
     let mut faults = Vec::new();
     if sums.differences > 0 {
         faults.push(format!("{} tapes differ", sums.differences));
     }
-    for number in (1..=23).chain([27, 28]) {
+    for number in (1..=23).chain([27, 28, 30]) {
         if sums.refusals[number] == 0 {
             faults.push(format!("refusal {number} was never seen"));
         }
@@ -273,6 +282,7 @@ fn faults(sums: &Sums, drawn: u64) -> Vec<String> {
         ("withdrawals", sums.withdrawals.accepted as u64, drawn * WITHDRAWALS_FLOOR),
         ("refusals 27", sums.refusals[27], drawn / NOT_WITHDRAWN_EVERY),
         ("refusals 28", sums.refusals[28], drawn / NOT_WITHDRAWN_EVERY),
+        ("refusals 30", sums.refusals[30], drawn * BLANK_ENDS_FLOOR),
     ] {
         if count < floor {
             faults.push(format!("{count} {what} are fewer than {floor}"));
@@ -289,5 +299,8 @@ fn faults(sums: &Sums, drawn: u64) -> Vec<String> {
             faults.push(fault.to_string());
         }
     }
+    let sights = NAME_SIGHTS.iter().zip(sums.names.0);
+    faults
+        .extend(sights.filter(|(_, count)| *count == 0).map(|(name, _)| format!("never: {name}")));
     faults
 }
