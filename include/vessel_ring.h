@@ -116,17 +116,19 @@ struct vessel_ring {
     uint8_t offered[VESSEL_CHANNELS];     /* 1 where a record is offered */
     uint8_t slots[VESSEL_NODES][VESSEL_SLOTS];                     /* the buffers: channel number + 1, oldest first */
     uint8_t lines[VESSEL_NODES][VESSEL_SLOTS];                     /* the lines, likewise */
-    uint8_t offers[VESSEL_CHANNELS][VESSEL_RECORD_BYTES];          /* the record offered, as on a tape */
-    uint8_t carried[VESSEL_CHANNELS][VESSEL_RECORD_BYTES];         /* the record that the response carries, as on a tape */
+    uint8_t offers[VESSEL_CHANNELS][VESSEL_RECORD_BYTES];          /* the record offered, as in command 0x25 */
+    uint8_t carried[VESSEL_CHANNELS][VESSEL_RECORD_BYTES];         /* the record that the response carries, likewise */
 };
 
-/* A batch record. To be sent, its name may not begin or end with a blank, 0x20: two labels that differ by one look the same on paper. A
-   ring that holds such a name, from before send refused it, is sound; the record is delivered unchanged, and the history takes it. */
+/* A batch record. Its temperature is in hundredths wherever a record stands but in two places, where it is in tenths: beside the code 0x21
+   of a command, and as it is given to vessel_ring_send_tenths. To be sent, its name may not begin or end with a blank, 0x20: two labels
+   that differ by one look the same on paper. A ring that holds such a name, from before send refused it, is sound; the record is delivered
+   unchanged, and the history takes it. */
 struct vessel_record {
     uint32_t batch;            /* not 0 */
     uint8_t vessel;
     uint8_t name_length;       /* at most 32 */
-    int16_t temperature;       /* tenths of a degree Celsius, -400 to 1200 */
+    int16_t temperature;       /* hundredths of a degree Celsius, -4000 to 12000 */
     uint8_t name[VESSEL_NAME]; /* name_length bytes of 0x20 to 0x7E, then zeros */
 };
 
@@ -164,10 +166,10 @@ struct vessel_waiting {
 struct vessel_row {
     uint32_t batch;                    /* 0 in an empty row */
     uint32_t count;                    /* how many readings stand here, 1 to 24; 0 in an empty row */
-    int16_t readings[VESSEL_READINGS]; /* temperatures as in a record, oldest first, then zeros */
+    int16_t readings[VESSEL_READINGS]; /* hundredths, as in a record, oldest first, then zeros */
 };
 
-/* The figures of a batch: of the readings in its row. Where it has no row, and where refused, `held` and the three are 0. */
+/* The figures of a batch, in hundredths: of the readings in its row. Where it has no row, and where refused, `held` and the three are 0. */
 struct vessel_figures {
     int32_t sum;
     int16_t lowest;
@@ -177,9 +179,10 @@ struct vessel_figures {
 };
 
 /* A command of the tape. `code` is its command byte: 0x10 add node (first: slots), 0x11 add channel (first: sender, second: receiver),
-   0x12 start, 0x20 receive (first: channel), 0x21 send (first: channel; record), 0x22 enter (first: node), 0x23 move (first: node),
-   0x24 withdraw (first: channel). What a command does not have is zero when it is read, and is not looked at when it is written. No
-   command has the code 0. */
+   0x12 start, 0x20 receive (first: channel), 0x21 send in tenths (first: channel; record), 0x22 enter (first: node), 0x23 move (first:
+   node), 0x24 withdraw (first: channel), 0x25 send in hundredths (first: channel; record). The temperature beside 0x21 is tenths of a
+   degree and beside 0x25 hundredths, as it stands on the tape; so a command that was read is written back as it was. What a command does
+   not have is zero when it is read, and is not looked at when it is written. No command has the code 0. */
 struct vessel_command {
     uint8_t code;
     uint8_t first;
@@ -226,6 +229,10 @@ uint8_t vessel_ring_receive(struct vessel_ring *ring, uint8_t channel);
    until the request arrives. Its name may be empty, but not begin or end with a blank. Refusals: 25, 8, 9, 11, 12, 13, 14, 30, 15. */
 uint8_t vessel_ring_send(struct vessel_ring *ring, uint8_t channel, struct vessel_record record);
 
+/* The same with a temperature in tenths, for a probe that gives these: 12 where it is not -400 to 1200, else the record offered has ten
+   times as many hundredths. Refusals: 25, 8, 9, 11, 12, 13, 14, 30, 15. */
+uint8_t vessel_ring_send_tenths(struct vessel_ring *ring, uint8_t channel, struct vessel_record record);
+
 /* ---- the traffic: called at every node, in any order, again and again. A refusal of these says that there is nothing to do here now. */
 
 /* Brings the first message of the node's line into its buffer. Refusals: 25, 8, 16, 17, 18. */
@@ -258,6 +265,14 @@ struct vessel_waiting vessel_ring_waiting_set(const struct vessel_ring *ring, ui
 /* 1 where the ring is sound, else 0: then every call answers 25. For a ring that comes from a store or over a wire. */
 uint8_t vessel_ring_is_sound(const struct vessel_ring *ring);
 
+/* ---- a ring from before the temperatures were hundredths */
+
+/* Turns a ring held in tenths into one held in hundredths: the temperature of each record offered or carried becomes ten times as many,
+   and all else stays. For a ring that comes from such a store, once, before any call on it: a ring does not say in which unit it is held,
+   and one that is turned already is turned a second time without a word where its temperatures are so small that it is sound in tenths
+   too. Refusals: 25, a ring that is not sound in tenths; one that is, is a sound ring with temperatures of -400 to 1200. */
+uint8_t vessel_ring_to_hundredths(struct vessel_ring *ring);
+
 /* ---- the history: a table of `rows` rows, apart from any ring. 25 is a table that has not exactly 128 rows, has a row that is not as
    said above, or has two rows of one batch. */
 
@@ -270,6 +285,11 @@ uint8_t vessel_history_close(struct vessel_row *table, size_t rows, uint32_t bat
 
 /* The lowest, the highest and the sum of the readings in the row of a batch. Refusals: 25. */
 struct vessel_figures vessel_history_figures(const struct vessel_row *table, size_t rows, uint32_t batch);
+
+/* Turns a table held in tenths into one held in hundredths: every reading, and so every figure, becomes ten times as many, and all else
+   stays. Of a second time the same holds as of a ring. Refusals: 25, a table that is not sound in tenths; one that is, is a sound table
+   with readings of -400 to 1200. */
+uint8_t vessel_history_to_hundredths(struct vessel_row *table, size_t rows);
 
 /* ---- commands of a tape */
 

@@ -9,12 +9,14 @@ The text has one command a line, with the names of documents 01 and 02:
   receive 0
   send 0 batch 7 vessel 3 temperature 612 name "A1"
   send 0 batch 7 vessel 3 temperature 612 length 33 cells 4131...
+  send hundredths 0 batch 7 vessel 3 temperature 6125 name "A1"
   enter 0
   move 0
   withdraw 0
   bytes 7f 00
 
-Numbers are decimal; the temperature is in tenths of a degree. In a quoted
+Numbers are decimal. The temperature of `send`, command 21, is in tenths of a
+degree, that of `send hundredths`, command 25, in hundredths. In a quoted
 name \\" and \\\\ stand for quote and backslash. A name not of normal form (at
 most 32 bytes 20 to 7e, then zero fill) is shown as length byte and 32 cells.
 The last line may be `bytes`: all from the first byte that begins no command,
@@ -131,17 +133,18 @@ class Command:
 
 
 CHANNEL, NODE = Number("channel", "B"), Number("node", "B")
+RECORD = (Number("batch number", "I", "batch"), Number("vessel", "B", "vessel"),
+          Number("temperature", "h", "temperature"), Name())
 COMMANDS = [
     Command(0x10, "add node", Number("slots", "B")),
     Command(0x11, "add channel", Number("sender", "B"), Number("receiver", "B")),
     Command(0x12, "start"),
     Command(0x20, "receive", CHANNEL),
-    Command(0x21, "send", CHANNEL, Number("batch number", "I", "batch"),
-            Number("vessel", "B", "vessel"),
-            Number("temperature", "h", "temperature"), Name()),
+    Command(0x21, "send", CHANNEL, *RECORD),
     Command(0x22, "enter", NODE),
     Command(0x23, "move", NODE),
     Command(0x24, "withdraw", CHANNEL),
+    Command(0x25, "send hundredths", CHANNEL, *RECORD),
 ]
 BY_BYTE = {command.byte: command for command in COMMANDS}
 
@@ -160,12 +163,12 @@ def tape_to_text(tape):
 
 
 def take_command(words):
-    """Removes a command's name, of one or two words, and returns the command."""
-    for command in COMMANDS:
-        name = command.name.split()
-        if words[:len(name)] == name:
-            del words[:len(name)]
-            return command
+    """Removes a command's name, of two words or one, and returns the command."""
+    for length in (2, 1):  # `send hundredths` begins with `send`
+        for command in COMMANDS:
+            if words[:length] == command.name.split():
+                del words[:length]
+                return command
     names = ", ".join(command.name for command in COMMANDS)
     raise expected(f"one of {names} or bytes", [" ".join(words)])
 

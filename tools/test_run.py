@@ -19,7 +19,7 @@ def run(path):
 
 class StoredListings(unittest.TestCase):
     def test_there_are_tapes(self):
-        self.assertGreaterEqual(len(TAPES), 5)
+        self.assertGreaterEqual(len(TAPES), 6)
 
     def test_every_tape_and_its_text(self):
         for tape in TAPES:

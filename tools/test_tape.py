@@ -43,15 +43,18 @@ LISTING_OUT = """\
 8 23 0
 9 21 0
 10 22 0
-11 23 0 delivered 0 7 3 612 2 A1
+11 23 0 delivered 0 7 3 6120 2 A1
 12 23 19
 end 10 2
 """
-# The table of document 01 and 02's command 24, on their own: command byte and width.
-WIDTHS = {0x10: 2, 0x11: 3, 0x12: 1, 0x20: 2, 0x21: 42, 0x22: 2, 0x23: 2, 0x24: 2}
+# The table of document 01 and 02's commands 24 and 25, on their own: command byte and width.
+WIDTHS = {0x10: 2, 0x11: 3, 0x12: 1, 0x20: 2, 0x21: 42, 0x22: 2, 0x23: 2, 0x24: 2, 0x25: 42}
+# The commands that send: the name in the text, and how many hundredths their unit is.
+SENDS = {0x21: ("send", 10), 0x25: ("send hundredths", 1)}
 SEND = "send 0 batch 7 vessel 3 temperature 612 "
-COMMANDS = "add node, add channel, start, receive, send, enter, move, withdraw or bytes"
-TAPES = ("listing", "turn", "edges", "withdraw", "blanks")
+COMMANDS = ("add node, add channel, start, receive, send, enter, move, withdraw, "
+            "send hundredths or bytes")
+TAPES = ("listing", "turn", "edges", "withdraw", "blanks", "hundredths")
 # Of tapes/withdraw, for each of its withdrawals: the refusal, or 0.
 WITHDRAW_ANSWERS = ["8", "9", "27", "28", "0", "0", "27", "27"]
 # Of tapes/blanks, for each of its sends: name length, cells up to the fill, and the answer.
@@ -59,13 +62,23 @@ BLANKS_ANSWERS = [
     (0, b"", "0"), (3, b"A B", "0"), (1, b" ", "30"), (2, b"A ", "30"), (2, b" A", "30"),
     (32, 31 * b"A" + b" ", "30"), (33, 31 * b"A" + b" ", "13"), (2, b" \x7f", "14"),
     (1, b"A ", "14"), (32, 32 * b"A", "0"), (2, b"A ", "30"), (2, b"AB", "15")]
+# Of tapes/hundredths, for each of its sends: command byte, temperature, and the answer.
+HUNDREDTHS_ANSWERS = [
+    (0x21, 1201, "8"), (0x25, 12001, "8"), (0x21, 1200, "0"), (0x21, -400, "0"),
+    (0x21, 1201, "12"), (0x21, -401, "12"), (0x21, 3277, "12"), (0x21, 6554, "12"),
+    (0x21, 32767, "12"), (0x21, -32768, "12"), (0x25, 12001, "12"), (0x25, -4001, "12"),
+    (0x25, 12000, "0"), (0x25, -4000, "0"), (0x25, 1201, "0"), (0x25, -401, "0"),
+    (0x21, 612, "0"), (0x25, 612, "0"), (0x21, 1201, "11"), (0x25, 12001, "11"),
+    (0x21, 1201, "12"), (0x25, 12001, "12"), (0x21, 1201, "9"), (0x25, 6125, "15")]
+# And the temperatures that it delivers.
+HUNDREDTHS_DELIVERED = ["12000", "-4000", "12000", "-4000", "1201", "-401", "6120", "612"]
 QUOTED = "a quoted name of at most 32 characters 20 to 7e"
 
 
-def send(name, length=None, channel=0, batch=7, vessel=3, temperature=612):
+def send(name, length=None, channel=0, batch=7, vessel=3, temperature=612, byte=0x21):
     """A send command, packed apart from the tool."""
     length = len(name) if length is None else length
-    return (bytes([0x21, channel]) + batch.to_bytes(4, "little") + bytes([vessel])
+    return (bytes([byte, channel]) + batch.to_bytes(4, "little") + bytes([vessel])
             + (temperature % 0x10000).to_bytes(2, "little")
             + bytes([length]) + name + bytes(32 - len(name)))
 
@@ -84,11 +97,11 @@ def random_name(rng):
 
 def random_command(rng):
     byte = rng.choice(list(WIDTHS))
-    if byte != 0x21:
+    if byte not in SENDS:
         return bytes([byte]) + rng.randbytes(WIDTHS[byte] - 1)
     name, length = random_name(rng)
     return send(bytes(name), length, rng.randrange(256), rng.getrandbits(32),
-                rng.randrange(256), rng.randint(-0x8000, 0x7FFF))
+                rng.randrange(256), rng.randint(-0x8000, 0x7FFF), byte)
 
 
 def random_tape(rng):
@@ -122,16 +135,18 @@ class RoundTrips(unittest.TestCase):
         self.check_pair(b"\x12", "start\n")
 
     def test_send_numbers(self):
-        for word, old, values in (
-                ("batch", 7, (0, 1, 255, 256, 0x01020304, 0xFFFFFFFF)),
-                ("vessel", 3, (0, 1, 128, 255)),
-                ("temperature", 612, (0, -1, 255, 256, 1200, 1201, -400, -401,
-                                      32767, -32768))):
-            for value in values:
-                text = f'{SEND}name "A1"\n'.replace(f"{word} {old}", f"{word} {value}")
-                self.check_pair(send(b"A1", **{word: value}), text)
-        self.check_pair(send(b"A1", channel=255),
-                        f'{SEND}name "A1"\n'.replace("send 0", "send 255"))
+        for byte, (command, _) in SENDS.items():
+            plain = f'{SEND}name "A1"\n'.replace("send 0", f"{command} 0")
+            for word, old, values in (
+                    ("batch", 7, (0, 1, 255, 256, 0x01020304, 0xFFFFFFFF)),
+                    ("vessel", 3, (0, 1, 128, 255)),
+                    ("temperature", 612, (0, -1, 255, 256, 1200, 1201, -400, -401, 12000,
+                                          12001, -4000, -4001, 32767, -32768))):
+                for value in values:
+                    text = plain.replace(f"{word} {old}", f"{word} {value}")
+                    self.check_pair(send(b"A1", byte=byte, **{word: value}), text)
+            self.check_pair(send(b"A1", channel=255, byte=byte),
+                            plain.replace(f"{command} 0", f"{command} 255"))
 
     def test_plain_names(self):
         for name, shown in (
@@ -139,6 +154,8 @@ class RoundTrips(unittest.TestCase):
                 (b'"', r"\""), (b"\\", r"\\"), (b'\\"', r"\\\""), (b'a"#', r"a\"#"),
                 (b"x" * 32, "x" * 32), (b'"' * 32, r"\"" * 32)):
             self.check_pair(send(name), f'{SEND}name "{shown}"\n')
+            self.check_pair(send(name, byte=0x25), f'{SEND}name "{shown}"\n'.replace(
+                "send", "send hundredths", 1))
         for byte in range(0x20, 0x7F):
             self.assertIn('name "', self.check(send(bytes([byte]) * 32)))
 
@@ -221,6 +238,14 @@ class Errors(unittest.TestCase):
                 ("receive # 1", "channel from 0 to 255", None),
                 ("send", "channel from 0 to 255", None),
                 ("send 0 7", "batch", "'7'"),
+                ("send hundredths", "channel from 0 to 255", None),
+                ("send hundredths 256", "channel from 0 to 255", "'256'"),
+                ("send hundredths 0 7", "batch", "'7'"),
+                ("send hundredth 0", "channel from 0 to 255", "'hundredth'"),
+                ("send 0 hundredths", "batch", "'hundredths'"),
+                ("hundredths 0", f"one of {COMMANDS}", "'hundredths 0'"),
+                (SEND.replace("send", "send hundredths").replace("612", "32768"),
+                 "temperature from -32768 to 32767", "'32768'"),
                 ("send 0 batch 4294967296", "batch number from 0 to 4294967295",
                  "'4294967296'"),
                 ("send 0 batch 7 vessel 256", "vessel from 0 to 255", "'256'"),
@@ -345,6 +370,15 @@ class Tapes(unittest.TestCase):
                 for command, line in zip(commands, lines) if command[0] == 0x21]
         self.assertEqual(rows, BLANKS_ANSWERS)
 
+    def test_hundredths(self):
+        commands = self.commands(self.load("hundredths", "tape"))
+        lines = self.load("hundredths", "out").decode("ascii").splitlines()
+        rows = [(command[0], *struct.unpack("<h", command[7:9]), line.split()[2])
+                for command, line in zip(commands, lines) if command[0] in SENDS]
+        self.assertEqual(rows, HUNDREDTHS_ANSWERS)
+        delivered = [line.split()[7] for line in lines if " delivered " in line]
+        self.assertEqual(delivered, HUNDREDTHS_DELIVERED)
+
     def test_texts_give_the_tapes(self):
         for name in TAPES:
             text = self.load(name, "txt").decode("ascii")
@@ -361,7 +395,7 @@ class Tapes(unittest.TestCase):
             self.assertEqual(last, f"end {accepted} {len(heads) - accepted}")
             # A delivered record is one that an accepted send offered.
             sent = [self.shown(command) for command, head in zip(commands, heads)
-                    if command[0] == 0x21 and head[2] == "0"]
+                    if command[0] in SENDS and head[2] == "0"]
             for line in lines:
                 if " delivered " in line:
                     self.assertIn(line.split(" delivered ")[1], sent)
@@ -374,8 +408,11 @@ class Tapes(unittest.TestCase):
         return found
 
     def shown(self, command):
-        *numbers, name = struct.unpack("<BIBhB32s", command[1:])
+        """The record of a send as a delivery shows it, in hundredths."""
+        channel, batch, vessel, temperature, length, name = struct.unpack("<BIBhB32s", command[1:])
+        temperature *= SENDS[command[0]][1]
         name = name.rstrip(b"\0").decode("ascii")
+        numbers = (channel, batch, vessel, temperature, length)
         return " ".join([*map(str, numbers), *([name] if name else [])])
 
 

@@ -32,7 +32,7 @@ impl Plan {
         self.channels.iter().for_each(|&(sender, receiver)| assert_eq!(ring.add_channel(sender, receiver), 0));
         assert_eq!(ring.start(), 0);
         for (channel, &(_, receiver)) in (0..).zip(&self.channels) {
-            let record = Record { batch: 7, vessel: 3, temperature: 612, ..Record::default() };
+            let record = Record { batch: 7, vessel: 3, temperature: 6120, ..Record::default() };
             assert_eq!((ring.send(channel, record), ring.receive(channel)), (0, 0));
             assert!(!self.entered || ring.enter(receiver) == 0);
         }

@@ -2,7 +2,7 @@
 //! other going its whole way on each channel in turn (receive, enter, moves, send, enter, moves), so every timed call is accepted, and the
 //! ring ends as it began but for its count.
 
-use second_model::ring::{BatchNumber, ChannelNumber, NodeNumber, Record, Ring};
+use second_model::ring::{BatchNumber, ChannelNumber, Fields, NodeNumber, Ring, Unit};
 use std::time::Instant;
 
 #[derive(Clone, Copy)]
@@ -79,6 +79,8 @@ impl Plan {
 }
 
 const NAME: &[u8] = b"bench";
+/// In hundredths.
+const TEMPERATURE: i16 = 6120;
 
 fn name() -> [u8; 32] {
     let mut cells = [0; 32];
@@ -91,7 +93,7 @@ fn on_library(ring: &mut vessel_ring::Ring, call: Call) -> u8 {
         Call::Receive(channel) => ring.receive(channel),
         Call::Send(channel) => ring.send(
             channel,
-            vessel_ring::Record { batch: 7, vessel: 3, name_length: NAME.len() as u8, temperature: 612, name: name() },
+            vessel_ring::Record { batch: 7, vessel: 3, name_length: NAME.len() as u8, temperature: TEMPERATURE, name: name() },
         ),
         Call::Enter(node) => ring.enter(node),
         Call::Move(node) => ring.move_on(node).refusal,
@@ -102,8 +104,9 @@ fn on_model(ring: &mut Ring, call: Call) -> bool {
     match call {
         Call::Receive(channel) => ring.receive(ChannelNumber(channel)).is_ok(),
         Call::Send(channel) => {
-            let record = Record { number: BatchNumber(7), temperature: 612, vessel: 3, length: NAME.len() as u8, name: name() };
-            ring.send(ChannelNumber(channel), &record).is_ok()
+            let (number, length) = (BatchNumber(7), NAME.len() as u8);
+            let fields = Fields { unit: Unit::Hundredths, number, temperature: TEMPERATURE, vessel: 3, length, name: name() };
+            ring.send(ChannelNumber(channel), &fields).is_ok()
         }
         Call::Enter(node) => ring.enter_at(NodeNumber(node)).is_ok(),
         Call::Move(node) => ring.move_at(NodeNumber(node)).is_ok(),

@@ -24,7 +24,7 @@ static struct vessel_record record_of(uint8_t name_length, const char *cells)
     memset(&record, 0, sizeof record);
     record.batch = 7;
     record.vessel = 3;
-    record.temperature = 612;
+    record.temperature = 6120;
     record.name_length = name_length;
     memcpy(record.name, cells, length < VESSEL_NAME ? length : VESSEL_NAME);
     return record;
@@ -113,7 +113,7 @@ static void runs_on(struct vessel_ring ring)
     HOLDS(memcmp(&all.records[0], &record, sizeof record) == 0);
     memset(history, 0, sizeof history);
     HOLDS(vessel_history_note(history, VESSEL_HISTORY_ROWS, single.record) == VESSEL_DONE);
-    HOLDS(history[0].batch == 7 && history[0].count == 1 && history[0].readings[0] == 612);
+    HOLDS(history[0].batch == 7 && history[0].count == 1 && history[0].readings[0] == 6120);
     HOLDS(ring.deliveries == 1 && is_refused(&ring, single.record, VESSEL_BLANK_END));
 }
 

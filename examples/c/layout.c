@@ -21,7 +21,7 @@ static struct vessel_record record_of(uint32_t batch)
     memset(&record, 0, sizeof record);
     record.batch = batch;
     record.vessel = 0xA5;
-    record.temperature = -399;
+    record.temperature = -3999;
     record.name_length = 32;
     memcpy(record.name, "abcdefghijklmnopqrstuvwxyz0123 ~", 32);
     return record;
@@ -31,7 +31,7 @@ static struct vessel_record record_of(uint32_t batch)
 static int is_record(const uint8_t *bytes, uint32_t batch)
 {
     struct vessel_record record = record_of(batch);
-    uint8_t form[VESSEL_RECORD_BYTES] = {0, 0, 0, 0, 0xA5, 0x71, 0xFE, 32};
+    uint8_t form[VESSEL_RECORD_BYTES] = {0, 0, 0, 0, 0xA5, 0x61, 0xF0, 32};
     int i;
     for (i = 0; i < 4; i++)
         form[i] = (uint8_t)(batch >> 8 * i);
@@ -88,7 +88,7 @@ static void ring_fields(void)
         HOLDS(vessel_ring_move(&ring, (uint8_t)i).refusal == VESSEL_DONE);
     d = vessel_ring_move(&ring, 10);
     HOLDS(d.refusal == 0 && d.delivered == 1 && d.channel == 63 && d.record.batch == 0x01020304u + 63);
-    HOLDS(d.record.vessel == 0xA5 && d.record.temperature == -399 && d.record.name_length == 32);
+    HOLDS(d.record.vessel == 0xA5 && d.record.temperature == -3999 && d.record.name_length == 32);
     HOLDS(memcmp(d.record.name, record_of(1).name, 32) == 0 && ring.deliveries == 1 && ring.phases[63] == VESSEL_RESTING);
     HOLDS(vessel_ring_is_sound(&ring) == 1);
     ring.spare = 1;
@@ -157,12 +157,16 @@ static void command_fields(void)
     reading = vessel_tape_read(tape, sizeof tape, 250);
     HOLDS(reading.refusal == 0 && reading.end == 0 && reading.next == 253);
     HOLDS(reading.command.code == 0x11 && reading.command.first == 0x5A && reading.command.second == 0xC3);
-    command.code = 0x21;
     command.record = record_of(0xFEDCBA98u);
-    writing = vessel_tape_write(tape, sizeof tape, 258, command);
-    HOLDS(writing.refusal == 0 && writing.next == 300 && tape[259] == 0x5A && is_record(tape + 260, 0xFEDCBA98u));
-    reading = vessel_tape_read(tape, sizeof tape, 258);
-    HOLDS(reading.next == 300 && memcmp(&reading.command.record, &command.record, sizeof command.record) == 0);
+    for (command.code = 0x21; command.code <= 0x25; command.code += 4) {
+        writing = vessel_tape_write(tape, sizeof tape, 258, command);
+        HOLDS(writing.refusal == 0 && writing.next == 300 && tape[258] == command.code && tape[259] == 0x5A);
+        HOLDS(is_record(tape + 260, 0xFEDCBA98u));
+        reading = vessel_tape_read(tape, sizeof tape, 258);
+        HOLDS(reading.next == 300 && reading.command.code == command.code);
+        HOLDS(memcmp(&reading.command.record, &command.record, sizeof command.record) == 0);
+    }
+    command.code = 0x25;
     reading = vessel_tape_read(tape, sizeof tape, 300);
     HOLDS(reading.end == 1 && reading.refusal == 0 && reading.next == 0);
     HOLDS(vessel_tape_read(tape, sizeof tape, 301).refusal == VESSEL_PLACE_BEYOND_END);
@@ -178,20 +182,20 @@ static void row_fields(void)
     struct vessel_figures f;
     int i;
     for (i = 0; i < VESSEL_READINGS; i++) {
-        record.temperature = (int16_t)(i - 400);
+        record.temperature = (int16_t)(i - 4000);
         HOLDS(vessel_history_note(table, VESSEL_HISTORY_ROWS, record) == VESSEL_DONE && table[0].batch == 0xFEDCBA98u);
-        HOLDS(table[0].count == (uint32_t)i + 1 && table[0].readings[i] == i - 400);
+        HOLDS(table[0].count == (uint32_t)i + 1 && table[0].readings[i] == i - 4000);
     }
     f = vessel_history_figures(table, VESSEL_HISTORY_ROWS, 0xFEDCBA98u);
-    HOLDS(f.refusal == 0 && f.held == 1 && f.lowest == -400 && f.highest == -377 && f.sum == -9324);
+    HOLDS(f.refusal == 0 && f.held == 1 && f.lowest == -4000 && f.highest == -3977 && f.sum == -95724);
     for (i = 1; i < VESSEL_HISTORY_ROWS; i++) {
         record.batch = 0x01020304u + (uint32_t)i;
-        record.temperature = (int16_t)(1000 + i);
+        record.temperature = (int16_t)(11000 + i);
         HOLDS(vessel_history_note(table, VESSEL_HISTORY_ROWS, record) == VESSEL_DONE && table[i].batch == 0x01020304u + (uint32_t)i);
-        HOLDS(table[i].count == 1 && table[i].readings[0] == 1000 + i && table[i].readings[1] == 0);
+        HOLDS(table[i].count == 1 && table[i].readings[0] == 11000 + i && table[i].readings[1] == 0);
     }
     f = vessel_history_figures(table, VESSEL_HISTORY_ROWS, 0x01020304u + 127);
-    HOLDS(f.refusal == 0 && f.held == 1 && f.lowest == 1127 && f.highest == 1127 && f.sum == 1127);
+    HOLDS(f.refusal == 0 && f.held == 1 && f.lowest == 11127 && f.highest == 11127 && f.sum == 11127);
     record.batch = 7;
     HOLDS(vessel_history_note(table, VESSEL_HISTORY_ROWS, record) == VESSEL_NO_EMPTY_ROW);
     HOLDS(vessel_history_close(table, VESSEL_HISTORY_ROWS, 0xFEDCBA98u) == VESSEL_DONE);

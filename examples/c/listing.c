@@ -95,6 +95,7 @@ static void damaged(void)
     printf(" %u", vessel_ring_start(&copy));
     printf(" %u", vessel_ring_receive(&copy, 0));
     printf(" %u", vessel_ring_send(&copy, 0, none));
+    printf(" %u", vessel_ring_send_tenths(&copy, 0, none));
     printf(" %u", vessel_ring_enter(&copy, 0));
     printf(" %u", vessel_ring_move(&copy, 0).refusal);
     printf(" %u", vessel_ring_dispatch(&copy, 1).refusal);
@@ -153,7 +154,7 @@ int main(void)
     memset(&record, 0, sizeof record);
     record.batch = 7;
     record.vessel = 3;
-    record.temperature = 612;
+    record.temperature = 612; /* tenths, as on the tape of document 01 */
     record.name_length = 2;
     memcpy(record.name, "A1", 2);
 
@@ -166,12 +167,12 @@ int main(void)
     ask(0);
     plain(0x22, vessel_ring_enter(&ring, 0));
     moved(vessel_ring_move(&ring, 0));
-    plain(0x21, vessel_ring_send(&ring, 0, record));
+    plain(0x21, vessel_ring_send_tenths(&ring, 0, record));
     plain(0x22, vessel_ring_enter(&ring, 1));
     moved(vessel_ring_move(&ring, 1));
     moved(vessel_ring_move(&ring, 1));
     printf("end %u %u\n", accepted, refused);
-    record.temperature = 634;
+    record.temperature = 6345; /* hundredths */
     vessel_ring_send(&ring, 0, record);
     vessel_ring_receive(&ring, 0);
     dispatch();

@@ -3,5 +3,6 @@ pub mod Places
 pub mod Name
 pub mod Signed
 pub mod Good
+pub mod Temperatures
 pub mod Blank
 pub mod Same

@@ -15,6 +15,11 @@ use lib.Seq.{drop-cons, drop-length}
 use Rattle.batch.specs.Good.{every, firstThen, isZero, isCharacter, nameCellsGood}
 use Rattle.batch.proofs.Good.{by-test}
 
+-- ---- cells of any type, all of which pass one test
+pub every-more : {A : Type 0} (f : A → Bool) (xs : List A) (i : ℕ) (d : A) → i < length xs →
+    every f (drop i xs) ≡ f (getD xs i d) && every f (drop (i + 1) xs)
+every-more f xs i d inside = rw (add-one i, drop-cons xs i d)
+
 -- ---- cells of any type, the first n of which pass one test and the rest another
 module _ {A : Type 0} (f g : A → Bool) where
   first-more : (n : ℕ) (x : A) (xs : List A) → firstThen f g (suc n) (x ∷ xs) ≡ f x && firstThen f g n xs
@@ -51,10 +56,6 @@ pub goodFrom-more : (n : ℕ) (cells : List ℕ) (i : ℕ) → i < length cells 
     goodFrom n cells i ≡ cond (ltb i n) (isCharacter (getD cells i 0)) (isZero (getD cells i 0)) && goodFrom n cells (i + 1)
 unfolding nameCellsGood
 goodFrom-more n cells i inside = then-more isCharacter isZero n cells i 0 inside
-
-pub every-more : (f : ℕ → Bool) (cells : List ℕ) (i : ℕ) → i < length cells →
-    every f (drop i cells) ≡ f (getD cells i 0) && every f (drop (i + 1) cells)
-every-more f cells i inside = rw (add-one i, drop-cons cells i 0)
 
 pub goodFrom-start : (n : ℕ) (cells : List ℕ) → nameCellsGood n cells ≡ goodFrom n cells 0
 goodFrom-start n cells = rw (sub-zero n)

@@ -15,12 +15,12 @@ use Rattle.batch.specs.declared.BatchRecord.{BatchRecord}
 use Rattle.batch.specs.declared.Verdict.{Verdict}
 use Rattle.batch.specs.declared.Verdict.the-variants.{Good, Refused}
 
--- the limits: temperatures in tenths of a degree Celsius, a name's length, and the bytes that a name is made of
+-- the limits: temperatures in hundredths of a degree Celsius, a name's length, and the bytes that a name is made of
 abbrev pub coldest : ℤ
-coldest = negℤ (pos 400)
+coldest = negℤ (pos 4000)
 
 abbrev pub hottest : ℤ
-hottest = pos 1200
+hottest = pos 12000
 
 abbrev pub nameLimit : ℕ
 nameLimit = 32
@@ -52,9 +52,13 @@ isCharacter b = leb firstCharacter b && leb b lastCharacter
 abbrev pub isBlank : ℕ → Bool
 isBlank b = eqb b blank
 
+-- neither below the one nor above the other
+abbrev pub between : ℤ → ℤ → ℤ → Bool
+between low high x = leZ low x && leZ x high
+
 -- a temperature that a record may have
 abbrev pub inRange : ℤ → Bool
-inRange x = leZ coldest x && leZ x hottest
+inRange x = between coldest hottest x
 
 -- the first `n` cells are characters, the rest are 0
 unfoldable pub nameCellsGood : ℕ → List ℕ → Bool

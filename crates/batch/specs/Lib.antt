@@ -1,3 +1,4 @@
 pub mod Good
 pub mod Blank
+pub mod Sending
 pub mod Same

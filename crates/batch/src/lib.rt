@@ -1,13 +1,16 @@
-// The batch record that a channel carries, what makes one good, and when two are of the same batch.
+// The batch record that a channel carries, what makes one good, and when two are of the same batch; `sending` makes one of what a command
+// gives.
 // Each function answers what its definition in specs/ says, of every value: a record is good or is refused
 // with the first refusal that applies. What send asks besides is a verdict of its own: a record that it refuses with 30 is good. The limits
 // of document 01 are constants of the record; a name has 32 cells.
+pub mod sending;
+
 use refusal::Refusal;
 ghost use mathlib.Core.Path.{_≡_};
 ghost use mathlib.Core.Bool.{cond};
 ghost use Prim.Native.Nat.{_≤_};
 ghost use lib.ListN as ListN;
-ghost use Rattle.batch.specs.Good.{every, inRange, isZero, isCharacter, nameLimit, nameCellsGood, recordOf, verdictOf, verdictNumber, goodRecord, blankAtEnd, sendVerdict};
+ghost use Rattle.batch.specs.Good.{every, between, inRange, isZero, isCharacter, nameLimit, nameCellsGood, recordOf, verdictOf, verdictNumber, goodRecord, blankAtEnd, sendVerdict};
 ghost use Rattle.batch.specs.Blank.{noRecord};
 ghost use Rattle.batch.specs.Same.{sameBatch};
 
@@ -18,7 +21,7 @@ pub struct BatchNo(pub u32);
 pub struct BatchRecord {
     pub batch: BatchNo,
     pub vessel: u8,
-    // Tenths of a degree Celsius.
+    // Hundredths of a degree Celsius.
     pub temperature: i16,
     // How many cells of `name` are the name; the rest are the fill, zeros.
     pub name_length: u8,
@@ -32,10 +35,10 @@ pub enum Verdict {
 }
 
 impl BatchRecord {
-    // The limits, of document 01: temperatures in tenths of a degree, a name's length, and the bytes of a name.
-    pub const COLDEST: i16 = -400;
+    // The limits, of documents 01 and 02: temperatures in hundredths of a degree, a name's length, and the bytes of a name.
+    pub const COLDEST: i16 = -4000;
 
-    pub const HOTTEST: i16 = 1200;
+    pub const HOTTEST: i16 = 12000;
 
     pub const NAME_LIMIT: u8 = 32;
 
@@ -144,14 +147,21 @@ pub fn all_zero(cells: &[u8]) -> bool
     zero
 }
 
+// Whether a number is neither below the one nor above the other.
+fn between(low: i16, high: i16, value: i16) -> bool
+    ensures { λ r. ⌜ r ≡ between low high value ⌝ }
+{
+    if value < low {
+        return false;
+    }
+    value <= high
+}
+
 // Whether a temperature is one that a record may have.
 pub fn in_range(temperature: i16) -> bool
     ensures { λ r. ⌜ r ≡ inRange temperature ⌝ }
 {
-    if temperature < BatchRecord::COLDEST {
-        return false;
-    }
-    temperature <= BatchRecord::HOTTEST
+    between(BatchRecord::COLDEST, BatchRecord::HOTTEST, temperature)
 }
 
 // Whether a cell of a name is what stands in its place: a character or the fill.

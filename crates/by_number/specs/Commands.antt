@@ -1,7 +1,7 @@
 -- A command of the tape in plain numbers, and what reading and writing one answers. Assumes nothing.
 use Prim.Native.Nat.{ℕ}
 use mathlib.Core.List.{List}
-use Rattle.batch.specs.declared.BatchRecord.{BatchRecord}
+use Rattle.batch.specs.declared.sending.Fields.{Fields}
 use Rattle.refusal.specs.Number.{numberOf}
 use Rattle.refusal.specs.declared.Refusal.the-variants.{UnknownCommand}
 use Rattle.tape.specs.declared.Action.{Action}
@@ -21,7 +21,7 @@ use Rattle.by_number.specs.declared.Record.{Record}
 use Rattle.by_number.specs.declared.Writing.{Writing}
 use Rattle.by_number.specs.declared.commands.Wanted.{Wanted}
 use Rattle.by_number.specs.declared.commands.Wanted.the-variants.{Known, Unknown}
-use Rattle.by_number.specs.Records.{recordOf, recordFor}
+use Rattle.by_number.specs.Records.{fieldsFrom, fieldsFor}
 
 abbrev pub command : ℕ → ℕ → ℕ → Record → Command
 command code first second x = record { code = code; first = first; second = second; «record» = x }
@@ -38,7 +38,7 @@ readingOf End a x = record { next = 0; refusal = 0; end = 1; command = command 0
 readingOf (Refused r) a x = record { next = 0; refusal = numberOf r; end = 0; command = command 0 0 0 x }
 
 abbrev pub readingIn : read.Reading → Reading
-readingIn r = readingOf (r .answer) (r .command .action) (recordFor (r .command .«record»))
+readingIn r = readingOf (r .answer) (r .command .action) (fieldsFor (r .command .fields))
 
 -- what a command byte and its operands stand for, from the same table
 abbrev pub wantedIn : Shape → Action → Wanted
@@ -46,7 +46,7 @@ wantedIn shape.Unknown a = Unknown
 wantedIn shape.Bare a = Known a
 wantedIn shape.Byte a = Known a
 wantedIn shape.TwoBytes a = Known a
-wantedIn shape.ByteAndRecord a = Known a
+wantedIn shape.ByteAndFields a = Known a
 
 abbrev pub actionOf : ℕ → ℕ → ℕ → Wanted
 actionOf code first second = wantedIn (rowOf code .shape) (rowOf code .action first second)
@@ -55,23 +55,23 @@ abbrev pub writingIn : wrote.Writing → Writing
 writingIn (written.Written next) = record { next = next; refusal = 0 }
 writingIn (written.Refused r) = record { next = 0; refusal = numberOf r }
 
-abbrev pub withRecord : Action → BatchRecord → tape.Command
-withRecord a x = record { action = a; «record» = x }
+abbrev pub withFields : Action → Fields → tape.Command
+withFields a x = record { action = a; fields = x }
 
 -- an unknown command byte is refused with 22, and nothing is written
-abbrev pub writes : Wanted → BatchRecord → List ℕ → ℕ → Writing
-writes (Known a) x bytes place = writingIn (writeAt bytes place (withRecord a x))
+abbrev pub writes : Wanted → Fields → List ℕ → ℕ → Writing
+writes (Known a) x bytes place = writingIn (writeAt bytes place (withFields a x))
 writes Unknown x bytes place = record { next = 0; refusal = numberOf UnknownCommand }
 
-abbrev pub leaves : Wanted → BatchRecord → List ℕ → ℕ → List ℕ
-leaves (Known a) x bytes place = afterWrite (writeAt bytes place (withRecord a x)) bytes place (withRecord a x)
+abbrev pub leaves : Wanted → Fields → List ℕ → ℕ → List ℕ
+leaves (Known a) x bytes place = afterWrite (writeAt bytes place (withFields a x)) bytes place (withFields a x)
 leaves Unknown x bytes place = bytes
 
 abbrev wantedBy : Command → Wanted
 wantedBy c = actionOf (c .code) (c .first) (c .second)
 
 abbrev pub writingTo : List ℕ → ℕ → Command → Writing
-writingTo bytes place c = writes (wantedBy c) (recordOf (c .«record»)) bytes place
+writingTo bytes place c = writes (wantedBy c) (fieldsFrom (c .«record»)) bytes place
 
 abbrev pub afterWriting : List ℕ → ℕ → Command → List ℕ
-afterWriting bytes place c = leaves (wantedBy c) (recordOf (c .«record»)) bytes place
+afterWriting bytes place c = leaves (wantedBy c) (fieldsFrom (c .«record»)) bytes place

@@ -1,17 +1,20 @@
--- A batch record between C's form and the ring's, and the records of the dispatcher's deliveries. Assumes nothing.
+-- A batch record and the fields of a send between C's form and the ring's, and the records of the dispatcher's deliveries. Assumes nothing.
 use Prim.Native.Nat.{ℕ}
 use mathlib.Core.Bool.{cond}
 use mathlib.Core.List.{List}
 use Rattle.batch.specs.declared.BatchRecord.{BatchRecord}
 use lib.Dec.{ltb}
 use lib.ListN.{getD}
+use Rattle.batch.specs.declared.sending.Fields.{Fields}
 use Rattle.batch.specs.Blank.{noRecord}
+use Rattle.batch.specs.Sending.{sameNumbers, fieldsOf}
 use Rattle.network.specs.Counting.{tabulate}
 use Rattle.network.specs.Layout.{channelRoom, recordAt}
 use Rattle.by_number.specs.declared.Record.{Record}
 
-abbrev pub recordOf : Record → BatchRecord
-recordOf x = record {
+-- C has one form for both
+abbrev pub fieldsFrom : Record → Fields
+fieldsFrom x = record {
   batch = record { 0 = x .batch };
   vessel = x .vessel;
   temperature = x .temperature;
@@ -19,14 +22,20 @@ recordOf x = record {
   name = x .name;
 }
 
-abbrev pub recordFor : BatchRecord → Record
-recordFor x = record {
-  batch = x .batch .0;
-  vessel = x .vessel;
-  «name_length» = x .«name_length»;
-  temperature = x .temperature;
-  name = x .name;
+abbrev pub fieldsFor : Fields → Record
+fieldsFor f = record {
+  batch = f .batch .0;
+  vessel = f .vessel;
+  «name_length» = f .«name_length»;
+  temperature = f .temperature;
+  name = f .name;
 }
+
+abbrev pub recordOf : Record → BatchRecord
+recordOf x = sameNumbers (fieldsFrom x)
+
+abbrev pub recordFor : BatchRecord → Record
+recordFor x = fieldsFor (fieldsOf x)
 
 abbrev pub recordsFor : List BatchRecord → List Record
 recordsFor xs = tabulate channelRoom (λ i. recordFor (getD xs i noRecord))

@@ -3,8 +3,8 @@ use crate::Command;
 use crate::Reading;
 use crate::Record;
 use crate::Writing;
-use crate::records::record_for;
-use crate::records::record_of;
+use crate::records::fields_for;
+use crate::records::fields_from;
 use tape::Action;
 use tape::ReadAnswer;
 use tape::Shape;
@@ -36,7 +36,7 @@ pub fn reading_of(reading: tape::Reading) -> Reading
     let answer = reading.answer;
     let read = reading.command;
     let action = read.action;
-    let record = record_for(read.record);
+    let record = fields_for(read.fields);
     match answer {
         ReadAnswer::Read { next } => {
             let told = command_of(action, record);
@@ -92,7 +92,7 @@ fn known_by(shape: Shape, action: Action) -> Wanted
         Shape::Bare => Wanted::Known(action),
         Shape::Byte => Wanted::Known(action),
         Shape::TwoBytes => Wanted::Known(action),
-        Shape::ByteAndRecord => Wanted::Known(action),
+        Shape::ByteAndFields => Wanted::Known(action),
     }
 }
 
@@ -116,11 +116,11 @@ pub fn write(bytes: &mut [u8], place: usize, command: Command) -> Writing
     ensures { λ r. ⌜ (r ≡ writingTo (now (bytes .entry)) place command)
         × (now (bytes .exit) ≡ afterWriting (now (bytes .entry)) place command) ⌝ }
 {
-    let record = record_of(command.record);
+    let fields = fields_from(command.record);
     let wanted = action_of(command.code, command.first, command.second);
     match wanted {
         Wanted::Known(action) => {
-            let answer = tape::write(bytes, place, tape::Command { action, record });
+            let answer = tape::write(bytes, place, tape::Command { action, fields });
             writing_of(answer)
         }
         Wanted::Unknown => Writing {

@@ -6,10 +6,11 @@ pub mod commands;
 pub mod records;
 pub mod tables;
 
+use crate::records::fields_from;
 use crate::records::record_for;
-use crate::records::record_of;
 use crate::records::records_in;
-use batch::BatchRecord;
+use batch::sending::Fields;
+use batch::sending::Scale;
 use dispatch::RingRun;
 use network::Answer;
 use network::Ring;
@@ -19,6 +20,8 @@ use numbers::ChannelNo;
 use numbers::NodeNo;
 ghost use mathlib.Core.Path.{_≡_};
 ghost use Prim.Native.Nat.{_≤_};
+ghost use Rattle.batch.specs.declared.sending.Scale.the-variants.{Tenths, Hundredths};
+ghost use Rattle.batch.specs.Sending.{recordFrom};
 ghost use Rattle.network.specs.Answers.{callOf};
 ghost use Rattle.network.specs.Counting.{one};
 ghost use Rattle.network.specs.Dispatcher.{dispatchRing, dispatchStepOf};
@@ -27,9 +30,10 @@ ghost use Rattle.network.specs.Network.{nodeNo, channelNo};
 ghost use Rattle.network.specs.Runs;
 ghost use Rattle.site.specs.InPlace.{answerTo};
 ghost use Rattle.by_number.specs.Answers.{numbersIn, numbers, toldOf, movedOf, ranOf, ranIn, hopsLeftIn, waitingIn};
-ghost use Rattle.by_number.specs.Records.{recordOf};
+ghost use Rattle.by_number.specs.Records.{fieldsFrom};
 
-// A batch record for C, its fields in an order that leaves no padding.
+// A batch record for C, its fields in an order that leaves no padding. The temperature is in hundredths, but in a send in tenths, and in
+// the command of one, in tenths.
 #[repr(C)]
 pub struct Record {
     pub batch: u32,
@@ -159,7 +163,7 @@ fn numbers_in(answer: Answer) -> Said
     }
 }
 
-fn in_numbers(s: Step) -> Told
+pub fn in_numbers(s: Step) -> Told
     ensures { λ r. ⌜ r ≡ toldOf s ⌝ }
 {
     let ring = s.ring;
@@ -207,17 +211,17 @@ fn rounds_in(run: RingRun) -> Ran
     Ran { ring, rounds }
 }
 
-// Any call of which C is told no more than the refusal; the record is that of a send.
-fn make(ring: Ring, call: RingCall, record: BatchRecord) -> Told
-    ensures { λ r. ⌜ r ≡ toldOf (stepRing (callOf call «record») ring) ⌝ }
+// Any call of which C is told no more than the refusal; the fields are those of a send.
+fn make(ring: Ring, call: RingCall, fields: Fields) -> Told
+    ensures { λ r. ⌜ r ≡ toldOf (stepRing (callOf call fields) ring) ⌝ }
 {
-    in_numbers(by_value::perform(ring, call, record))
+    in_numbers(by_value::perform(ring, call, fields))
 }
 
 pub fn add_node(ring: Ring, slots: u8) -> Told
     ensures { λ r. ⌜ r ≡ toldOf (stepRing (Runs.addNode slots) ring) ⌝ }
 {
-    make(ring, RingCall::AddNode(slots), BatchRecord::none())
+    make(ring, RingCall::AddNode(slots), Fields::none())
 }
 
 pub fn add_channel(ring: Ring, sender: u8, receiver: u8) -> Told
@@ -226,53 +230,62 @@ pub fn add_channel(ring: Ring, sender: u8, receiver: u8) -> Told
     make(
         ring,
         RingCall::AddChannel(NodeNo(sender), NodeNo(receiver)),
-        BatchRecord::none(),
+        Fields::none(),
     )
 }
 
 pub fn start(ring: Ring) -> Told
     ensures { λ r. ⌜ r ≡ toldOf (stepRing Runs.start ring) ⌝ }
 {
-    make(ring, RingCall::Start, BatchRecord::none())
+    make(ring, RingCall::Start, Fields::none())
 }
 
 pub fn receive(ring: Ring, channel: u8) -> Told
     ensures { λ r. ⌜ r ≡ toldOf (stepRing (Runs.receive (channelNo channel)) ring) ⌝ }
 {
+    make(ring, RingCall::Receive(ChannelNo(channel)), Fields::none())
+}
+
+// The record's temperature is in this unit.
+fn send_in(ring: Ring, channel: u8, scale: Scale, record: Record) -> Told
+    ensures { λ r. ⌜ r ≡ toldOf (stepRing (Runs.send (channelNo channel) (recordFrom scale (fieldsFrom «record»))) ring) ⌝ }
+{
     make(
         ring,
-        RingCall::Receive(ChannelNo(channel)),
-        BatchRecord::none(),
+        RingCall::Send(ChannelNo(channel), scale),
+        fields_from(record),
     )
 }
 
 pub fn send(ring: Ring, channel: u8, record: Record) -> Told
-    ensures { λ r. ⌜ r ≡ toldOf (stepRing (Runs.send (channelNo channel) (recordOf «record»)) ring) ⌝ }
+    ensures { λ r. ⌜ r ≡ toldOf (stepRing (Runs.send (channelNo channel) (recordFrom Hundredths (fieldsFrom «record»))) ring) ⌝ }
 {
-    make(ring, RingCall::Send(ChannelNo(channel)), record_of(record))
+    send_in(ring, channel, Scale::Hundredths, record)
+}
+
+pub fn send_tenths(ring: Ring, channel: u8, record: Record) -> Told
+    ensures { λ r. ⌜ r ≡ toldOf (stepRing (Runs.send (channelNo channel) (recordFrom Tenths (fieldsFrom «record»))) ring) ⌝ }
+{
+    send_in(ring, channel, Scale::Tenths, record)
 }
 
 pub fn enter(ring: Ring, node: u8) -> Told
     ensures { λ r. ⌜ r ≡ toldOf (stepRing (Runs.enter (nodeNo node)) ring) ⌝ }
 {
-    make(ring, RingCall::Enter(NodeNo(node)), BatchRecord::none())
+    make(ring, RingCall::Enter(NodeNo(node)), Fields::none())
 }
 
 pub fn move_on(ring: Ring, node: u8) -> Moved
     ensures { λ r. ⌜ r ≡ movedOf (stepRing (Runs.move (nodeNo node)) ring) ⌝ }
 {
-    let made = by_value::perform(ring, RingCall::Move(NodeNo(node)), BatchRecord::none());
+    let made = by_value::perform(ring, RingCall::Move(NodeNo(node)), Fields::none());
     delivery_in(made)
 }
 
 pub fn withdraw(ring: Ring, channel: u8) -> Told
     ensures { λ r. ⌜ r ≡ toldOf (stepRing (Runs.withdraw (channelNo channel)) ring) ⌝ }
 {
-    make(
-        ring,
-        RingCall::Withdraw(ChannelNo(channel)),
-        BatchRecord::none(),
-    )
+    make(ring, RingCall::Withdraw(ChannelNo(channel)), Fields::none())
 }
 
 pub fn dispatch(ring: Ring, rounds: u16) -> Ran

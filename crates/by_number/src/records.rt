@@ -1,19 +1,22 @@
-// A batch record between C's form and the ring's, and the records of the dispatcher's deliveries.
+// A batch record and the fields of a send between C's form and the ring's, and the records of the dispatcher's deliveries. C has one form
+// for both: the temperature of a record is in hundredths, that of fields in the unit of their call or command.
 use crate::Record;
 use batch::BatchNo;
 use batch::BatchRecord;
+use batch::sending;
+use batch::sending::Fields;
 use dispatch;
 use network::Records;
 ghost use mathlib.Core.Path.{_≡_};
 ghost use Prim.Native.Nat.{_≤_};
 ghost use Rattle.network.specs.Layout.{channelRoom};
-ghost use Rattle.by_number.specs.Records.{recordOf, recordFor, recordsIn};
+ghost use Rattle.by_number.specs.Records.{fieldsFrom, fieldsFor, recordOf, recordFor, recordsIn};
 
-pub fn record_of(record: Record) -> BatchRecord
-    ensures { λ r. ⌜ r ≡ recordOf «record» ⌝ }
+pub fn fields_from(record: Record) -> Fields
+    ensures { λ r. ⌜ r ≡ fieldsFrom «record» ⌝ }
 {
     let name = record.name;
-    BatchRecord {
+    Fields {
         batch: BatchNo(record.batch),
         vessel: record.vessel,
         temperature: record.temperature,
@@ -22,17 +25,30 @@ pub fn record_of(record: Record) -> BatchRecord
     }
 }
 
+pub fn fields_for(fields: Fields) -> Record
+    ensures { λ r. ⌜ r ≡ fieldsFor fields ⌝ }
+{
+    let name = fields.name;
+    Record {
+        batch: fields.batch.0,
+        vessel: fields.vessel,
+        name_length: fields.name_length,
+        temperature: fields.temperature,
+        name,
+    }
+}
+
+pub fn record_of(record: Record) -> BatchRecord
+    ensures { λ r. ⌜ r ≡ recordOf «record» ⌝ }
+{
+    let temperature = record.temperature;
+    sending::record_with(fields_from(record), temperature)
+}
+
 pub fn record_for(record: BatchRecord) -> Record
     ensures { λ r. ⌜ r ≡ recordFor «record» ⌝ }
 {
-    let name = record.name;
-    Record {
-        batch: record.batch.0,
-        vessel: record.vessel,
-        name_length: record.name_length,
-        temperature: record.temperature,
-        name,
-    }
+    fields_for(sending::fields_of(record))
 }
 
 // The records of the dispatcher's deliveries: so many are read off their bytes, and blanks stand behind them.

@@ -2,6 +2,8 @@
 // answers without the ring, which it leaves as it is. `perform` takes the ring apart and makes the call on its parts (`calls`); the other
 // calls are `perform` with a name. A ring of a site, which is lent, is called through these (`site`).
 use batch::BatchRecord;
+use batch::sending::Fields;
+use batch::sending::Scale;
 use calls;
 use dispatch::RingRun;
 use network::Answer;
@@ -15,6 +17,7 @@ use numbers::NodeNo;
 use questions::Tasks;
 ghost use mathlib.Core.Path.{_≡_};
 ghost use Prim.Native.Nat.{_≤_};
+ghost use Rattle.batch.specs.Sending.{recordFrom};
 ghost use Rattle.network.specs.Answers.{callOf, stepOf, replyOf};
 ghost use Rattle.network.specs.Dispatcher.{dispatchRing, dispatchStepOf};
 ghost use Rattle.network.specs.Layout.{channelRoom, callRing};
@@ -22,9 +25,9 @@ ghost use Rattle.network.specs.Runs;
 ghost use Rattle.by_value.specs.Told.{toldOf};
 ghost use Rattle.questions.specs.Tasks.{tasksTo, saidIn, tasksSaid};
 
-// The call, with the record of a send beside it: the ring after the call, and the reply.
-pub fn perform(ring: Ring, call: RingCall, record: BatchRecord) -> Step
-    ensures { λ r. ⌜ r ≡ stepOf ring (callRing (callOf call «record») ring) ⌝ }
+// The call, with the fields of a send beside it: the ring after the call, and the reply.
+pub fn perform(ring: Ring, call: RingCall, fields: Fields) -> Step
+    ensures { λ r. ⌜ r ≡ stepOf ring (callRing (callOf call fields) ring) ⌝ }
 {
     let head = ring.head;
     let mut slots = ring.slots;
@@ -38,7 +41,7 @@ pub fn perform(ring: Ring, call: RingCall, record: BatchRecord) -> Step
         &mut offers,
         &mut carried,
         call,
-        record,
+        fields,
     );
     let head = after.head;
     let reply = after.reply;
@@ -56,60 +59,56 @@ pub fn perform(ring: Ring, call: RingCall, record: BatchRecord) -> Step
 pub fn add_node(ring: Ring, slots: u8) -> Step
     ensures { λ r. ⌜ r ≡ stepOf ring (callRing (Runs.addNode slots) ring) ⌝ }
 {
-    perform(ring, RingCall::AddNode(slots), BatchRecord::none())
+    perform(ring, RingCall::AddNode(slots), Fields::none())
 }
 
 // Adds a channel from one node to another, or to the same.
 pub fn add_channel(ring: Ring, sender: NodeNo, receiver: NodeNo) -> Step
     ensures { λ r. ⌜ r ≡ stepOf ring (callRing (Runs.addChannel sender receiver) ring) ⌝ }
 {
-    perform(
-        ring,
-        RingCall::AddChannel(sender, receiver),
-        BatchRecord::none(),
-    )
+    perform(ring, RingCall::AddChannel(sender, receiver), Fields::none())
 }
 
 // Ends the plan: from here on the ring runs.
 pub fn start(ring: Ring) -> Step
     ensures { λ r. ⌜ r ≡ stepOf ring (callRing Runs.start ring) ⌝ }
 {
-    perform(ring, RingCall::Start, BatchRecord::none())
+    perform(ring, RingCall::Start, Fields::none())
 }
 
 // Asks for a record on a resting channel.
 pub fn receive(ring: Ring, channel: ChannelNo) -> Step
     ensures { λ r. ⌜ r ≡ stepOf ring (callRing (Runs.receive channel) ring) ⌝ }
 {
-    perform(ring, RingCall::Receive(channel), BatchRecord::none())
+    perform(ring, RingCall::Receive(channel), Fields::none())
 }
 
-// Offers a record on a channel.
-pub fn send(ring: Ring, channel: ChannelNo, record: BatchRecord) -> Step
-    ensures { λ r. ⌜ r ≡ stepOf ring (callRing (Runs.send channel «record») ring) ⌝ }
+// Offers the record of these fields on a channel; the unit is that of their temperature.
+pub fn send(ring: Ring, channel: ChannelNo, scale: Scale, fields: Fields) -> Step
+    ensures { λ r. ⌜ r ≡ stepOf ring (callRing (Runs.send channel (recordFrom scale fields)) ring) ⌝ }
 {
-    perform(ring, RingCall::Send(channel), record)
+    perform(ring, RingCall::Send(channel, scale), fields)
 }
 
 // Brings the first of a node's line into its buffer.
 pub fn enter(ring: Ring, node: NodeNo) -> Step
     ensures { λ r. ⌜ r ≡ stepOf ring (callRing (Runs.enter node) ring) ⌝ }
 {
-    perform(ring, RingCall::Enter(node), BatchRecord::none())
+    perform(ring, RingCall::Enter(node), Fields::none())
 }
 
 // Moves the first of a node's buffer to the next node.
 pub fn move_on(ring: Ring, node: NodeNo) -> Step
     ensures { λ r. ⌜ r ≡ stepOf ring (callRing (Runs.move node) ring) ⌝ }
 {
-    perform(ring, RingCall::Move(node), BatchRecord::none())
+    perform(ring, RingCall::Move(node), Fields::none())
 }
 
 // Gives up a request that still stands in its line.
 pub fn withdraw(ring: Ring, channel: ChannelNo) -> Step
     ensures { λ r. ⌜ r ≡ stepOf ring (callRing (Runs.withdraw channel) ring) ⌝ }
 {
-    perform(ring, RingCall::Withdraw(channel), BatchRecord::none())
+    perform(ring, RingCall::Withdraw(channel), Fields::none())
 }
 
 // What the dispatcher says of its run: the records of its deliveries are read off their bytes.
@@ -151,7 +150,7 @@ pub fn dispatch(ring: Ring, rounds: u16) -> DispatchStep
 pub fn hops_left(ring: Ring, channel: ChannelNo) -> Answer
     ensures { λ r. ⌜ r ≡ replyOf (callRing (Runs.hopsLeft channel) ring) .answer ⌝ }
 {
-    let asked = perform(ring, RingCall::HopsLeft(channel), BatchRecord::none());
+    let asked = perform(ring, RingCall::HopsLeft(channel), Fields::none());
     let reply = asked.reply;
     reply.answer
 }
@@ -160,7 +159,7 @@ pub fn hops_left(ring: Ring, channel: ChannelNo) -> Answer
 pub fn waiting_set(ring: Ring, node: NodeNo) -> Answer
     ensures { λ r. ⌜ r ≡ replyOf (callRing (Runs.waitingSet node) ring) .answer ⌝ }
 {
-    let asked = perform(ring, RingCall::WaitingSet(node), BatchRecord::none());
+    let asked = perform(ring, RingCall::WaitingSet(node), Fields::none());
     let reply = asked.reply;
     reply.answer
 }

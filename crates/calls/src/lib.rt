@@ -1,6 +1,7 @@
 // The list of the ring calls: `perform` makes any of them on a ring whose cells and records are lent; the head goes by value. A call that
 // is added to the ring has one line here, and whoever makes calls by name goes through here.
 use batch::BatchRecord;
+use batch::sending::Fields;
 use network::Answer;
 use network::Cells;
 use network::Head;
@@ -70,7 +71,7 @@ fn ask_waiting(
     asked(head, answer)
 }
 
-// The call, with the record of a send beside it.
+// The call, with the fields of a send beside it.
 pub fn perform(
     head: Head,
     slots: &mut Cells,
@@ -78,11 +79,11 @@ pub fn perform(
     offers: &mut Records,
     carried: &mut Records,
     call: RingCall,
-    record: BatchRecord,
+    fields: Fields,
 ) -> HeadStep
     ensures { λ r. ⌜ stepIn r (now (slots .exit)) (now (lines .exit)) (now (offers .exit)) (now (carried .exit))
         ≡ stepOf (ringIn head (now (slots .entry)) (now (lines .entry)) (now (offers .entry)) (now (carried .entry)))
-        (callRing (callOf call «record»)
+        (callRing (callOf call fields)
         (ringIn head (now (slots .entry)) (now (lines .entry)) (now (offers .entry)) (now (carried .entry)))) ⌝ }
 {
     match call {
@@ -90,7 +91,7 @@ pub fn perform(
         RingCall::AddChannel(p, q) => add_channel(head, slots, lines, offers, carried, p, q),
         RingCall::Start => start(head, slots, lines, offers, carried),
         RingCall::Receive(k) => receive(head, slots, lines, offers, carried, k),
-        RingCall::Send(k) => send(head, slots, lines, offers, carried, k, record),
+        RingCall::Send(k, scale) => send(head, slots, lines, offers, carried, k, scale, fields),
         RingCall::Enter(p) => enter(head, slots, lines, offers, carried, p),
         RingCall::Move(p) => move_on(head, slots, lines, offers, carried, p),
         RingCall::Withdraw(k) => withdraw(head, slots, lines, offers, carried, k),

@@ -125,9 +125,9 @@ module _ (a : Call) (t : List Row) (stays : made a t ≡ done t) where
       ap (λ (m : Result). outcomeNumber (m .outcome) ∷ outcomes (replicate n a) (m .table)) stays
       ∙ ap (λ ns. 0 ∷ ns) (all-done n)
 
--- such a call is a note of 1200 on the table with 24 readings of 1200
+-- such a call is a note of 12000 on the table with 24 readings of 12000
 hotTable : List Row
-hotTable = row 7 24 (replicate 24 (pos 1200)) ∷ replicate 127 emptyRow
+hotTable = row 7 24 (replicate 24 (pos 12000)) ∷ replicate 127 emptyRow
 
 hot-24 : after (hot 24) ≡ hotTable
 unfolding hotTable soundTable soundRow note verdictOf batchGood tempGood nameLengthGood nameGood widthsGood nameCellsGood
@@ -137,19 +137,19 @@ done-24 : outcomes (hot 24) emptyTable ≡ replicate 24 0
 unfolding soundTable soundRow note verdictOf batchGood tempGood nameLengthGood nameGood widthsGood nameCellsGood
 done-24 = refl
 
-hot-stays : made (reading 7 (pos 1200)) hotTable ≡ done hotTable
+hot-stays : made (reading 7 (pos 12000)) hotTable ≡ done hotTable
 unfolding hotTable soundTable soundRow note verdictOf batchGood tempGood nameLengthGood nameGood widthsGood nameCellsGood
 hot-stays = refl
 
-hot-told : figures 7 hotTable ≡ tells (pos 1200) (pos 1200) (pos 28800)
+hot-told : figures 7 hotTable ≡ tells (pos 12000) (pos 12000) (pos 288000)
 unfolding hotTable soundTable soundRow figures
 hot-told = refl
 
 module _ (n : ℕ) where
   in-two : hot (24 + n) ≡ hot 24 ++ hot n
-  in-two = sym (replicate-append-replicate 24 n (reading 7 (pos 1200)))
+  in-two = sym (replicate-append-replicate 24 n (reading 7 (pos 12000)))
 
-  told-on : figures 7 (after (hot (24 + n))) ≡ tells (pos 1200) (pos 1200) (pos 28800)
+  told-on : figures 7 (after (hot (24 + n))) ≡ tells (pos 12000) (pos 12000) (pos 288000)
   told-on =
       ap (λ calls. figures 7 (after calls)) in-two
       ∙ ap (figures 7) (table-then (hot 24) (hot n) emptyTable ∙ ap (tableAfter (hot n)) hot-24 ∙ table-stays _ hotTable hot-stays n)

@@ -73,14 +73,14 @@ pub record OldestGoes : Type 0 where
 
 -- 24 readings whose first is the lowest; and 24 whose first is neither the lowest nor the highest
 abbrev pub coldFirst : List Call
-coldFirst = reading 7 (negℤ (pos 400)) ∷ replicate 23 (reading 7 (pos 0))
+coldFirst = reading 7 (negℤ (pos 4000)) ∷ replicate 23 (reading 7 (pos 0))
 
 abbrev pub mixed : List Call
 mixed = reading 7 (pos 3) ∷ reading 7 (pos 9) ∷ reading 7 (negℤ (pos 4)) ∷ replicate 21 (reading 7 (pos 0))
 
 pub record FiguresFollow : Type 0 where
   -- the lowest reading is forgotten when it goes
-  pub with-lowest : figures 7 (after coldFirst) ≡ tells (negℤ (pos 400)) (pos 0) (negℤ (pos 400))
+  pub with-lowest : figures 7 (after coldFirst) ≡ tells (negℤ (pos 4000)) (pos 0) (negℤ (pos 4000))
   pub without : figures 7 (after (coldFirst ++ reading 7 (pos 5) ∷ [])) ≡ tells (pos 0) (pos 5) (pos 5)
   -- the readings stand as they came, and the oldest goes whatever it is
   pub as-they-came : rowAt 0 (after mixed) ≡ row 7 24 (pos 3 ∷ pos 9 ∷ negℤ (pos 4) ∷ zeros 21)
@@ -100,20 +100,20 @@ pub record ZerosCount : Type 0 where
 
 -- thousands of readings: the same figures after any number of them, from 24 on
 abbrev pub hot : ℕ → List Call
-hot n = replicate n (reading 7 (pos 1200))
+hot n = replicate n (reading 7 (pos 12000))
 
 pub record ThousandsNoted : Type 0 where
-  pub from-24-on : (n : ℕ) → 24 ≤ n → figures 7 (after (hot n)) ≡ tells (pos 1200) (pos 1200) (pos 28800)
-  pub five-thousand : figures 7 (after (hot 5000)) ≡ tells (pos 1200) (pos 1200) (pos 28800)
+  pub from-24-on : (n : ℕ) → 24 ≤ n → figures 7 (after (hot n)) ≡ tells (pos 12000) (pos 12000) (pos 288000)
+  pub five-thousand : figures 7 (after (hot 5000)) ≡ tells (pos 12000) (pos 12000) (pos 288000)
   pub all-taken : outcomes (hot 5000) emptyTable ≡ replicate 5000 0
 
 -- the edges of the range, and just beyond
 abbrev pub atEdges : List Call
-atEdges = reading 7 (negℤ (pos 400)) ∷ reading 7 (pos 1200) ∷ reading 7 (negℤ (pos 401)) ∷ reading 7 (pos 1201) ∷ []
+atEdges = reading 7 (negℤ (pos 4000)) ∷ reading 7 (pos 12000) ∷ reading 7 (negℤ (pos 4001)) ∷ reading 7 (pos 12001) ∷ []
 
 pub record RangeEdges : Type 0 where
   pub answered : outcomes atEdges emptyTable ≡ 0 ∷ 0 ∷ 12 ∷ 12 ∷ []
-  pub taken : rowAt 0 (after atEdges) ≡ row 7 2 (negℤ (pos 400) ∷ pos 1200 ∷ zeros 22)
+  pub taken : rowAt 0 (after atEdges) ≡ row 7 2 (negℤ (pos 4000) ∷ pos 12000 ∷ zeros 22)
 
 -- ---- several batches
 -- two batches, and the first is closed: row 0 is empty, row 1 is not
@@ -169,7 +169,7 @@ abbrev pub badName : Call
 badName = noting (recordOf 129 3 (pos 0) 1 (replicate 32 0x41))
 
 abbrev pub badRecords : List Call
-badRecords = reading 0 (pos 0) ∷ reading 129 (pos 1201) ∷ longName ∷ badName ∷ reading 129 (pos 0) ∷ []
+badRecords = reading 0 (pos 0) ∷ reading 129 (pos 12001) ∷ longName ∷ badName ∷ reading 129 (pos 0) ∷ []
 
 -- 11 to 14 before 29
 pub record RecordFirst : Type 0 where
@@ -210,11 +210,11 @@ pub record UnsoundTables : Type 0 where
   pub not-too-many : Accepted (with3 (row 7 24 (map pos (from 1 24))))
   pub after-the-last : Says25 (with3 (row 7 1 (pos 1 ∷ pos 1 ∷ zeros 22)))
   pub in-the-last-cell : Says25 (with3 (row 7 1 (zeros 23 ++ pos 1 ∷ [])))
-  pub too-hot : Says25 (with3 (row 7 1 (pos 1201 ∷ zeros 23)))
-  pub not-too-hot : Accepted (with3 (row 7 1 (pos 1200 ∷ zeros 23)))
-  pub last-too-hot : Says25 (with3 (row 7 24 (map pos (from 1 23) ++ pos 1201 ∷ [])))
-  pub too-cold : Says25 (with3 (row 7 1 (negℤ (pos 401) ∷ zeros 23)))
-  pub not-too-cold : Accepted (with3 (row 7 1 (negℤ (pos 400) ∷ zeros 23)))
+  pub too-hot : Says25 (with3 (row 7 1 (pos 12001 ∷ zeros 23)))
+  pub not-too-hot : Accepted (with3 (row 7 1 (pos 12000 ∷ zeros 23)))
+  pub last-too-hot : Says25 (with3 (row 7 24 (map pos (from 1 23) ++ pos 12001 ∷ [])))
+  pub too-cold : Says25 (with3 (row 7 1 (negℤ (pos 4001) ∷ zeros 23)))
+  pub not-too-cold : Accepted (with3 (row 7 1 (negℤ (pos 4000) ∷ zeros 23)))
   pub two-rows : Says25 (set (with3 one) 90 one)
   pub not-two : Accepted (set (with3 one) 90 (row 8 1 (pos 1 ∷ zeros 23)))
   pub first-and-last : Says25 (set (set emptyTable 0 one) 127 one)

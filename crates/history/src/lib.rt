@@ -29,7 +29,7 @@ pub const ROWS: usize = 128;
 pub struct Row {
     pub batch: BatchNo,
     pub count: u32,
-    // In tenths of a degree: `count` readings, oldest first, then zeros.
+    // In hundredths of a degree: `count` readings, oldest first, then zeros.
     pub readings: [i16; Row::READINGS],
 }
 
@@ -52,7 +52,7 @@ pub enum Figures {
 }
 
 // What one pass over the table keeps.
-struct Search {
+pub struct Search {
     // The batch that is looked for, and its row: the empty one where it was not met.
     wanted: BatchNo,
     found: Row,
@@ -173,7 +173,7 @@ fn none_twice(batches: &[u32]) -> bool
 
 // ---- one pass over the table
 
-fn begin(wanted: BatchNo) -> Search
+pub fn begin(wanted: BatchNo) -> Search
     ensures { λ r. ⌜ r ≡ beginAt wanted ⌝ }
 {
     Search {
@@ -222,7 +222,7 @@ fn still_fine(fine: bool, row: Row) -> bool
     if fine { row_sound(row) } else { false }
 }
 
-fn seen(search: Search, row: Row, i: usize) -> Search
+pub fn seen(search: Search, row: Row, i: usize) -> Search
     ensures { λ r. ⌜ r ≡ seenAt search row i ⌝ }
 {
     let wanted = search.wanted;
@@ -243,7 +243,7 @@ fn seen(search: Search, row: Row, i: usize) -> Search
 }
 
 // Whether the rows passed are a sound table.
-fn sound(search: Search) -> bool
+pub fn sound(search: Search) -> bool
     ensures { λ r. ⌜ r ≡ soundSearch search ⌝ }
 {
     let batches = search.batches;

@@ -1,9 +1,13 @@
 pub mod Params
 pub mod Called
 pub mod Rows
+pub mod Looping
+pub mod Folding
 pub mod Storing
+pub mod Rewriting
 pub mod Contract
 pub mod CalledOn
 pub mod Noting
+pub mod Sweeping
 pub mod Asking
 pub mod Handing

@@ -2,6 +2,7 @@
 -- read as statements.
 pub mod Deeds
 pub mod BlankEnds
+pub mod Hundredths
 pub mod Splits
 pub mod Numbers
 pub mod Counting

@@ -10,7 +10,9 @@ use Rattle.refusal.specs.declared.Refusal.{Refusal}
 use Rattle.refusal.specs.declared.Refusal.the-variants.{UnsoundRing}
 use Rattle.refusal.specs.Number.{numberOf}
 use Rattle.batch.specs.declared.BatchRecord.{BatchRecord}
+use Rattle.batch.specs.declared.sending.Fields.{Fields}
 use Rattle.batch.specs.Blank.{noRecord}
+use Rattle.batch.specs.Sending.{recordFrom}
 use Rattle.numbers.specs.declared.ChannelNo.{ChannelNo}
 use Rattle.network.specs.declared.Ring.{Ring}
 use Rattle.network.specs.declared.RingCall.{RingCall}
@@ -22,18 +24,18 @@ use Rattle.network.specs.declared.Step.{Step}
 use Rattle.network.specs.Calls.{Event, done, delivered, hopsAre, waitingAre, Delivery, deliveryIn, Outcome, refused, accepted}
 use Rattle.network.specs.Runs.{Call, addNode, addChannel, start, receive, send, enter, move, withdraw, hopsLeft, waitingSet, after}
 
--- the ring call that a case of the enum stands for, with the record beside it
-abbrev pub callOf : RingCall → BatchRecord → Call
-callOf (AddNode slots) x = addNode slots
-callOf (AddChannel sender receiver) x = addChannel sender receiver
-callOf Start x = start
-callOf (Receive channel) x = receive channel
-callOf (Send channel) x = send channel x
-callOf (Enter node) x = enter node
-callOf (Move node) x = move node
-callOf (Withdraw channel) x = withdraw channel
-callOf (HopsLeft channel) x = hopsLeft channel
-callOf (WaitingSet node) x = waitingSet node
+-- the ring call that a case of the enum stands for, with the fields beside it: a send is of the record that they make
+abbrev pub callOf : RingCall → Fields → Call
+callOf (AddNode slots) f = addNode slots
+callOf (AddChannel sender receiver) f = addChannel sender receiver
+callOf Start f = start
+callOf (Receive channel) f = receive channel
+callOf (Send channel scale) f = send channel (recordFrom scale f)
+callOf (Enter node) f = enter node
+callOf (Move node) f = move node
+callOf (Withdraw channel) f = withdraw channel
+callOf (HopsLeft channel) f = hopsLeft channel
+callOf (WaitingSet node) f = waitingSet node
 
 -- document 01's number for an answer: that of the refusal, or 0
 abbrev pub numberIn : Answer → ℕ

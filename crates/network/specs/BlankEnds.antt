@@ -26,7 +26,7 @@ use Rattle.network.specs.Withdrawals.{oneWay}
 
 -- a record with a name of so many bytes: these stand in its first cells, zeros in the rest
 abbrev pub named : ℕ → List ℕ → BatchRecord
-named size bytes = sample (pos 612) size (bytes ++ replicate (32 - length bytes) 0)
+named size bytes = sample (pos 6120) size (bytes ++ replicate (32 - length bytes) 0)
 
 -- the names `AB`, and `A` with a blank behind it
 abbrev pub plain : BatchRecord
@@ -95,13 +95,14 @@ sends =
     ∷ []
 
 -- Asked of whatever answers ring calls: `after` is what lists of calls make of a fresh one, `made` what holds a ring, `sound` the test for 25.
-module _ {S : Type 0} (after : List Call → S) (made : Network → S) (sound : S → Bool) (step : Call → S → Outcome S) where
+module _ {S : Type 0} (after : List Call → S) (step : Call → S → Outcome S) where
   abbrev pub answered : Row → ℕ
   answered r = outcomeNumber (step (send (r .at) (r .sent)) (after (r .before)))
 
   abbrev pub SendsAnswer : Type 0
   SendsAnswer = map answered sends ≡ map (λ (r : Row). r .number) sends
 
+module _ {S : Type 0} (made : Network → S) (sound : S → Bool) (step : Call → S → Outcome S) where
   pub record OldRings : Type 0 where
     pub offer-sound : sound (made oldOffer) ≡ true
     pub carried-sound : sound (made oldCarried) ≡ true
@@ -110,8 +111,8 @@ module _ {S : Type 0} (after : List Call → S) (made : Network → S) (sound : 
 
 -- The same of the ring in memory.
 pub record RingBlanks : Type 0 where
-  pub sends-answer : SendsAnswer (λ before. run callRing before freshRing) hold soundRing callRing
-  pub old-rings : OldRings (λ before. run callRing before freshRing) hold soundRing callRing
+  pub sends-answer : SendsAnswer (λ before. run callRing before freshRing) callRing
+  pub old-rings : OldRings hold soundRing callRing
 
 -- Of every sound started ring: in the place of a record offered or carried on channel k stands one that send refuses with 30, and the ring
 -- is sound.

@@ -6,7 +6,10 @@ use mathlib.Core.List.{List, [], _∷_, _++_, map}
 use lib.IntN.{ℤ, pos, negℤ}
 use lib.ListN.{length, getD, replicate}
 use Rattle.batch.specs.declared.BatchRecord.{BatchRecord}
+use Rattle.batch.specs.declared.sending.Scale.{Scale}
+use Rattle.batch.specs.declared.sending.Scale.the-variants.{Tenths, Hundredths}
 use Rattle.batch.specs.Good.{verdictNumber, sendVerdict}
+use Rattle.batch.specs.Sending.{asHundredths}
 use Rattle.numbers.specs.declared.NodeNo.{NodeNo}
 use Rattle.numbers.specs.declared.ChannelNo.{ChannelNo}
 use Rattle.hops.specs.Hops.{hops}
@@ -34,7 +37,7 @@ pub data Question : Type 0 where
   starting : List ℕ → List Ends → Question
   hopsFrom : ℕ → ℕ → ℕ → Question
   naming : ℕ → Question
-  heating : ℤ → Question
+  heating : Scale → ℤ → Question
   slotting : ℕ → Question
   counting : List ℕ → List Ends → Question
 
@@ -46,8 +49,8 @@ module _ {S : Type 0} (fresh : S) (seen : S → Network) (step : Call → S → 
   abbrev pub ask : Question → ℕ
   ask (starting slots ends) = outcomeNumber (step start (planned slots ends))
   ask (hopsFrom n p q) = hops n p q
-  ask (naming size) = verdictNumber (sendVerdict (sample (pos 612) size (replicate 32 0x41)))
-  ask (heating degrees) = verdictNumber (sendVerdict (sample degrees 0 (replicate 32 0)))
+  ask (naming size) = verdictNumber (sendVerdict (sample (pos 6120) size (replicate 32 0x41)))
+  ask (heating scale degrees) = verdictNumber (sendVerdict (sample (asHundredths scale degrees) 0 (replicate 32 0)))
   ask (slotting slots) = outcomeNumber (step (addNode slots) fresh)
   ask (counting slots ends) = bound (seen (planned slots ends))
 
@@ -73,11 +76,15 @@ edges =
     -- P6, P7
     ∷ edge (naming 32) 0
     ∷ edge (naming 33) 13
-    -- P8, P9
-    ∷ edge (heating (pos 1200)) 0
-    ∷ edge (heating (negℤ (pos 400))) 0
-    ∷ edge (heating (pos 1201)) 12
-    ∷ edge (heating (negℤ (pos 401))) 12
+    -- P8, P9, of command 21; and beside them the edges of command 25
+    ∷ edge (heating Tenths (pos 1200)) 0
+    ∷ edge (heating Tenths (negℤ (pos 400))) 0
+    ∷ edge (heating Tenths (pos 1201)) 12
+    ∷ edge (heating Tenths (negℤ (pos 401))) 12
+    ∷ edge (heating Hundredths (pos 12000)) 0
+    ∷ edge (heating Hundredths (negℤ (pos 4000))) 0
+    ∷ edge (heating Hundredths (pos 12001)) 12
+    ∷ edge (heating Hundredths (negℤ (pos 4001))) 12
     -- P10
     ∷ edge (slotting 64) 0
     ∷ edge (slotting 65) 3
@@ -110,9 +117,9 @@ c1 = channelNo 1
 abbrev pub c2 : ChannelNo
 c2 = channelNo 2
 
--- the run of document 01's tape, and the record that it delivers
+-- the run of document 01's tape, and the record that it delivers: the tape has 612 tenths, the record 6120 hundredths
 abbrev pub workedRecord : BatchRecord
-workedRecord = sample (pos 612) 2 (0x41 ∷ 0x31 ∷ replicate 30 0)
+workedRecord = sample (asHundredths Tenths (pos 612)) 2 (0x41 ∷ 0x31 ∷ replicate 30 0)
 
 abbrev pub workedCalls : List Call
 workedCalls =

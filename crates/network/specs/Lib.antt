@@ -16,5 +16,6 @@ pub mod Dispatcher
 pub mod Edges
 pub mod Withdrawals
 pub mod BlankEnds
+pub mod Hundredths
 pub mod Rounds
 pub mod Dummies

@@ -5,6 +5,7 @@
 // is lent as a ring is a value, which the test for a sound ring judges; and a ring can be lent to C, compared and stored as memory. What
 // is large is an array of bytes, which a call is lent where it lies; what is small, the head, goes by value.
 use batch::BatchRecord;
+use batch::sending::Scale;
 use numbers::ChannelNo;
 use numbers::NodeNo;
 use refusal::Refusal;
@@ -126,14 +127,15 @@ pub fn one_more(count: u32) -> u32
     count + 1
 }
 
-// The ring calls, with their operands; the record of a send stands beside the call. (It has a name of 32 bytes, which no enum can hold.)
+// The ring calls, with their operands; the fields of a send stand beside the call. (They have a name of 32 bytes, which no enum can hold.)
 pub enum RingCall {
     AddNode(u8),
     // Sender and receiver.
     AddChannel(NodeNo, NodeNo),
     Start,
     Receive(ChannelNo),
-    Send(ChannelNo),
+    // The unit is that of the temperature in the fields.
+    Send(ChannelNo, Scale),
     Enter(NodeNo),
     Move(NodeNo),
     Withdraw(ChannelNo),

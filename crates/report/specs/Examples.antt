@@ -1,5 +1,5 @@
--- Lines of the report that document 01 shows, and one with a temperature below 0 and no name. Each row has the bytes that a line is to
--- be, and the line as it is defined. Assumes nothing.
+-- Lines of the report that document 01 shows, the delivery in hundredths, and one with a temperature below 0 and no name. Each row has the
+-- bytes that a line is to be, and the line as it is defined. Assumes nothing.
 use Prim.Native.Nat.{ℕ}
 use mathlib.Core.Path.{_≡_}
 use mathlib.Core.List.{List, [], _∷_, _++_, map}
@@ -18,15 +18,15 @@ pub record Row : Type 0 where
 abbrev row : List ℕ → List ℕ → Row
 row bytes line = record { bytes = bytes; line = line }
 
--- `11 23 0 delivered 0 7 3 612 2 A1`
+-- `11 23 0 delivered 0 7 3 6120 2 A1`
 abbrev deliveryRow : Row
 deliveryRow =
     row
     ((0x31 ∷ 0x31 ∷ 0x20 ∷ 0x32 ∷ 0x33 ∷ 0x20 ∷ 0x30 ∷ [])
     ++ (0x20 ∷ 0x64 ∷ 0x65 ∷ 0x6C ∷ 0x69 ∷ 0x76 ∷ 0x65 ∷ 0x72 ∷ 0x65 ∷ 0x64 ∷ [])
-    ++ (0x20 ∷ 0x30 ∷ 0x20 ∷ 0x37 ∷ 0x20 ∷ 0x33 ∷ 0x20 ∷ 0x36 ∷ 0x31 ∷ 0x32 ∷ 0x20 ∷ 0x32 ∷ 0x20 ∷ 0x41 ∷ 0x31 ∷ 0x0A ∷ []))
+    ++ (0x20 ∷ 0x30 ∷ 0x20 ∷ 0x37 ∷ 0x20 ∷ 0x33 ∷ 0x20 ∷ 0x36 ∷ 0x31 ∷ 0x32 ∷ 0x30 ∷ 0x20 ∷ 0x32 ∷ 0x20 ∷ 0x41 ∷ 0x31 ∷ 0x0A ∷ []))
     (lineOf 11 0x23
-    (record { answer = Delivered (record { 0 = 0 }); delivered = recordOf 7 3 (pos 612) 2 (0x41 ∷ 0x31 ∷ replicate 30 0) }))
+    (record { answer = Delivered (record { 0 = 0 }); delivered = recordOf 7 3 (pos 6120) 2 (0x41 ∷ 0x31 ∷ replicate 30 0) }))
 
 -- `12 23 19`
 abbrev refusalRow : Row
@@ -38,15 +38,15 @@ refusalRow =
 abbrev endRow : Row
 endRow = row (0x65 ∷ 0x6E ∷ 0x64 ∷ 0x20 ∷ 0x31 ∷ 0x30 ∷ 0x20 ∷ 0x32 ∷ 0x0A ∷ []) (endOf 10 2)
 
--- `5 af 0 delivered 63 1 255 -400 0`
+-- `5 af 0 delivered 63 1 255 -4000 0`
 abbrev coldRow : Row
 coldRow =
     row
     ((0x35 ∷ 0x20 ∷ 0x61 ∷ 0x66 ∷ 0x20 ∷ 0x30 ∷ [])
     ++ (0x20 ∷ 0x64 ∷ 0x65 ∷ 0x6C ∷ 0x69 ∷ 0x76 ∷ 0x65 ∷ 0x72 ∷ 0x65 ∷ 0x64 ∷ [])
-    ++ (0x20 ∷ 0x36 ∷ 0x33 ∷ 0x20 ∷ 0x31 ∷ 0x20 ∷ 0x32 ∷ 0x35 ∷ 0x35 ∷ 0x20 ∷ 0x2D ∷ 0x34 ∷ 0x30 ∷ 0x30 ∷ 0x20 ∷ 0x30 ∷ 0x0A ∷ []))
+    ++ (0x20 ∷ 0x36 ∷ 0x33 ∷ 0x20 ∷ 0x31 ∷ 0x20 ∷ 0x32 ∷ 0x35 ∷ 0x35 ∷ 0x20 ∷ 0x2D ∷ 0x34 ∷ 0x30 ∷ 0x30 ∷ 0x30 ∷ 0x20 ∷ 0x30 ∷ 0x0A ∷ []))
     (lineOf 5 0xAF
-    (record { answer = Delivered (record { 0 = 63 }); delivered = recordOf 1 255 (negℤ (pos 400)) 0 (replicate 32 0) }))
+    (record { answer = Delivered (record { 0 = 63 }); delivered = recordOf 1 255 (negℤ (pos 4000)) 0 (replicate 32 0) }))
 
 -- every row's line has the row's bytes
 abbrev rows : List Row

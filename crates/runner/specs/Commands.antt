@@ -15,11 +15,11 @@ ringCall (AddNode slots) = ring.AddNode slots
 ringCall (AddChannel sender receiver) = ring.AddChannel sender receiver
 ringCall Start = ring.Start
 ringCall (Receive channel) = ring.Receive channel
-ringCall (Send channel) = ring.Send channel
+ringCall (Send channel scale) = ring.Send channel scale
 ringCall (Enter node) = ring.Enter node
 ringCall (Move node) = ring.Move node
 ringCall (Withdraw channel) = ring.Withdraw channel
 
 -- the ring after a command, and the reply
 unfoldable pub commandStep : Command → Ring → Step
-commandStep c ring = stepRing (callOf (ringCall (c .action)) (c .«record»)) ring
+commandStep c ring = stepRing (callOf (ringCall (c .action)) (c .fields)) ring

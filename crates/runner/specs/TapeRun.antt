@@ -20,7 +20,7 @@ use Rattle.runner.specs.Session.{longest, beginning, afterLines}
 -- the ring calls of the next n lines of a tape from a place on: a command that was read is a call, and what follows it; the end and a
 -- command that the reader refuses are none, and nothing further is read
 abbrev pub callThen : ReadAnswer → Command → (ℕ → List Call) → List Call
-callThen (Read next) c rest = callOf (ringCall (c .action)) (c .«record») ∷ rest next
+callThen (Read next) c rest = callOf (ringCall (c .action)) (c .fields) ∷ rest next
 callThen End c rest = []
 callThen (Refused r) c rest = []
 

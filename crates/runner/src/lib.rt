@@ -114,7 +114,7 @@ fn ring_call(action: Action) -> RingCall
         Action::AddChannel(from, to) => RingCall::AddChannel(from, to),
         Action::Start => RingCall::Start,
         Action::Receive(channel) => RingCall::Receive(channel),
-        Action::Send(channel) => RingCall::Send(channel),
+        Action::Send(channel, scale) => RingCall::Send(channel, scale),
         Action::Enter(node) => RingCall::Enter(node),
         Action::Move(node) => RingCall::Move(node),
         Action::Withdraw(channel) => RingCall::Withdraw(channel),
@@ -289,9 +289,9 @@ fn next_line(
         ReadAnswer::Read { next } => {
             let command = reading.command;
             let action = command.action;
-            let record = command.record;
+            let fields = command.fields;
             let call = ring_call(action);
-            let called = calls::perform(head, slots, lines, offers, carried, call, record);
+            let called = calls::perform(head, slots, lines, offers, carried, call, fields);
             let reply = called.reply;
             let line = told(tape, tally, reply, next, out, at);
             let head = called.head;

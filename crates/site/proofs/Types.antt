@@ -2,8 +2,10 @@
 -- Assumes nothing.
 use mathlib.Core.Path.{refl}
 use denote.Struct.Laws as LL
-use Rattle.batch.proofs.BatchRecord as B
-use Rattle.batch.proofs.BatchRecord.Laws as B′
+use Rattle.batch.proofs.sending.Fields as B
+use Rattle.batch.proofs.sending.Fields.Laws as B′
+use Rattle.batch.proofs.sending.Scale as U
+use Rattle.batch.proofs.sending.Scale.Laws as U′
 use Rattle.network.proofs.Answer as A
 use Rattle.network.proofs.Answer.Laws as A′
 use Rattle.network.proofs.Dispatched as D
@@ -31,8 +33,11 @@ node-no = struct-kind N.the-type N′.the-laws N′.the-plain N′.the-copy
 abbrev pub channel-no : Kind
 channel-no = struct-kind C.the-type C′.the-laws C′.the-plain C′.the-copy
 
-abbrev pub batch-record : Kind
-batch-record = struct-kind B.the-type B′.the-laws B′.the-plain B′.the-copy
+abbrev pub scale : Kind
+scale = enum-kind U.the-type U′.the-laws tt U′.the-plain U′.the-copy
+
+abbrev pub fields : Kind
+fields = struct-kind B.the-type B′.the-laws B′.the-plain B′.the-copy
 
 abbrev pub ring-call : Kind
 ring-call = enum-kind K.the-type K′.the-laws tt K′.the-plain K′.the-copy

@@ -12,7 +12,8 @@
 // Any of them says `Refused` with the first refusal that applies, and then the ring is as it was; an unsound ring is refused by all.
 // The same call of `by_value` does the work, and each contract is that call's: what it returns is the whole ring afterwards and the
 // reply.
-use batch::BatchRecord;
+use batch::sending::Fields;
+use batch::sending::Scale;
 use network::Answer;
 use network::Dispatched;
 use network::Reply;
@@ -22,6 +23,7 @@ use numbers::ChannelNo;
 use numbers::NodeNo;
 use questions::Tasks;
 ghost use mathlib.Core.Path.{_≡_};
+ghost use Rattle.batch.specs.Sending.{recordFrom};
 ghost use Rattle.network.specs.Answers.{callOf};
 ghost use Rattle.network.specs.Dispatch.{afterDispatch};
 ghost use Rattle.network.specs.Dispatcher.{dispatchRing, answerOf};
@@ -69,12 +71,12 @@ pub fn receive(ring: &mut Ring, channel: ChannelNo) -> Reply
     s.reply
 }
 
-// Offers a record on a channel.
-pub fn send(ring: &mut Ring, channel: ChannelNo, record: BatchRecord) -> Reply
-    ensures { λ r. ⌜ (now (ring .exit) ≡ ringAfter (Runs.send channel «record») (now (ring .entry)))
-        × (r ≡ replyTo (Runs.send channel «record») (now (ring .entry))) ⌝ }
+// Offers the record of these fields on a channel; the unit is that of their temperature.
+pub fn send(ring: &mut Ring, channel: ChannelNo, scale: Scale, fields: Fields) -> Reply
+    ensures { λ r. ⌜ (now (ring .exit) ≡ ringAfter (Runs.send channel (recordFrom scale fields)) (now (ring .entry)))
+        × (r ≡ replyTo (Runs.send channel (recordFrom scale fields)) (now (ring .entry))) ⌝ }
 {
-    let s = by_value::send(*ring, channel, record);
+    let s = by_value::send(*ring, channel, scale, fields);
     *ring = s.ring;
     s.reply
 }
@@ -140,12 +142,12 @@ pub fn tasks_waiting(ring: &Ring, node: NodeNo) -> Tasks
     by_value::tasks_waiting(*ring, node)
 }
 
-// Makes any of the ring calls, told by its name; the record is that of a send and plays no part in another call.
-pub fn perform(ring: &mut Ring, call: RingCall, record: BatchRecord) -> Reply
-    ensures { λ r. ⌜ (now (ring .exit) ≡ ringAfter (callOf call «record») (now (ring .entry)))
-        × (r ≡ replyTo (callOf call «record») (now (ring .entry))) ⌝ }
+// Makes any of the ring calls, told by its name; the fields are those of a send and play no part in another call.
+pub fn perform(ring: &mut Ring, call: RingCall, fields: Fields) -> Reply
+    ensures { λ r. ⌜ (now (ring .exit) ≡ ringAfter (callOf call fields) (now (ring .entry)))
+        × (r ≡ replyTo (callOf call fields) (now (ring .entry))) ⌝ }
 {
-    let s = by_value::perform(*ring, call, record);
+    let s = by_value::perform(*ring, call, fields);
     *ring = s.ring;
     s.reply
 }

@@ -11,18 +11,19 @@ use borrow.Author.Needs.{needs}
 use borrow.Author.Tests.{ne-eqb, eqb-true}
 use lib.Dec.{eqb}
 use lib.ListN.{length, getD, take, drop}
-use Rattle.batch.specs.declared.BatchRecord.{BatchRecord}
+use Rattle.batch.specs.declared.sending.Fields.{Fields}
+use Rattle.batch.specs.declared.sending.Scale.the-variants.{Tenths, Hundredths}
 use Rattle.wire.specs.Bytes.{numberAt, Bytes}
-use Rattle.wire.specs.Record.{recordIn, RecordFits}
+use Rattle.wire.specs.Record.{fieldsIn, FieldsFit}
 use Rattle.tape.specs.declared.Action.{Action}
 use Rattle.tape.specs.declared.Action.the-variants.{AddNode, AddChannel, Start, Receive, Send, Enter, Move, Withdraw}
 use Rattle.tape.specs.declared.Command.{Command}
 use Rattle.tape.specs.declared.Parts.{Parts}
 use Rattle.tape.specs.declared.Shape.{Shape}
-use Rattle.tape.specs.Shape.{widthOf, recordWith, bytesWith}
+use Rattle.tape.specs.Shape.{widthOf, fieldsWith, bytesWith}
 use Rattle.tape.specs.Table.{Row, noRow, rowOf, find, commands, partsOf, commandIn, shapeOf, plain, bytesOf, width}
 use Rattle.tape.specs.RoundTrip.{OperandsFit}
-use Rattle.tape.proofs.Shapes.{hasFirst, hasSecond, record-once, record-written, length-with, first-read, second-read, record-read, bytes-written}
+use Rattle.tape.proofs.Shapes.{hasFirst, hasSecond, fields-once, fields-written, length-with, first-read, second-read, fields-read, bytes-written}
 
 -- a byte that is none of the command bytes, in the form in which a `match` tells it
 abbrev OtherThan : ℕ → List Row → Type 0 → Type 0
@@ -48,7 +49,7 @@ unknown code n = none-of code commands (Unit {0}) n
 -- the action's command byte is the row's; written, it has the operands that it was made of; and it is made of no others
 record Fair (r : Row) : Type 0 where
   code-is : (a b : ℕ) → partsOf (r .action a b) .code ≡ r .code
-  written : (a b : ℕ) (x : BatchRecord)
+  written : (a b : ℕ) (x : Fields)
       → bytesWith (r .shape) (partsOf (r .action a b)) x ≡ bytesWith (r .shape) (record { code = r .code; first = a; second = b }) x
   no-others : (a b c d : ℕ) → r .action (cond (hasFirst (r .shape)) a c) (cond (hasSecond (r .shape)) b d) ≡ r .action a b
 
@@ -58,7 +59,8 @@ All P (r ∷ rows) = P r × All P rows
 
 all-fair : All Fair commands
 unfolding commands bytesWith
-all-fair = search needs depth 24
+all-fair =
+    (search needs, (search needs, (search needs, (search needs, (search needs, (search needs, (search needs, (search needs, (search needs, tt)))))))))
 
 -- the row that was found for a command byte
 record Found (code : ℕ) (r : Row) : Type 0 where
@@ -99,7 +101,8 @@ made (AddNode slots) = search needs
 made (AddChannel sender receiver) = search needs
 made Start = search needs
 made (Receive channel) = search needs
-made (Send channel) = search needs
+made (Send channel Tenths) = search needs
+made (Send channel Hundredths) = search needs
 made (Enter node) = search needs
 made (Move node) = search needs
 made (Withdraw channel) = search needs
@@ -111,24 +114,24 @@ pub code-byte : (a : Action) → partsOf a .code < 256
 code-byte a = made a .byte
 
 -- a command is as many bytes as its width
-pub length-bytesOf : (c : Command) → RecordFits (c .«record») → length (bytesOf c) ≡ width c
+pub length-bytesOf : (c : Command) → FieldsFit (c .fields) → length (bytesOf c) ≡ width c
 unfolding bytesOf width
-length-bytesOf c h = length-with (partsOf (c .action)) (c .«record») (shapeOf (c .action)) h
+length-bytesOf c h = length-with (partsOf (c .action)) (c .fields) (shapeOf (c .action)) h
 
 -- its row makes the command of its bytes
-pub command-read : (c : Command) (rest : List ℕ) → OperandsFit (c .action) → RecordFits (c .«record»)
+pub command-read : (c : Command) (rest : List ℕ) → OperandsFit (c .action) → FieldsFit (c .fields)
     → commandIn (rowOf (partsOf (c .action) .code)) (bytesOf c ++ rest) ≡ plain c
 unfolding commandIn bytesOf plain
 command-read c rest f g =
     let p = partsOf (c .action) in
-    let x = c .«record» in
+    let x = c .fields in
     let r = rowOf (p .code) in
     let made-again : r .action (numberAt 1 1 (bytesWith (r .shape) p x ++ rest)) (numberAt 2 1 (bytesWith (r .shape) p x ++ rest)) ≡ c .action
     = rw (first-read p x rest (r .shape) (f .0), second-read p x rest (r .shape) (f .1))
     (row-found (p .code) (made (c .action) .some) .fair .no-others (p .first) (p .second) _ _ ∙ made (c .action) .is) in
-    rw (made-again, record-read p x rest (r .shape) g)
+    rw (made-again, fields-read p x rest (r .shape) g)
 
--- a row's command has a record only where its action has one, and the row's width
+-- a row's command has fields only where its action has them, and the row's width
 pub row-own : (code : ℕ) (t : List ℕ) → 0 < widthOf (rowOf code .shape)
     → (plain (commandIn (rowOf code) t) ≡ commandIn (rowOf code) t) × (width (commandIn (rowOf code) t) ≡ widthOf (rowOf code .shape))
 unfolding commandIn plain width
@@ -136,8 +139,8 @@ row-own code t some =
     let same = shape-is code some (numberAt 1 1 t) (numberAt 2 1 t) in
     let r = rowOf code in (
       ap
-          (λ (x : BatchRecord). record { action = r .action (numberAt 1 1 t) (numberAt 2 1 t); «record» = x })
-          (ap (λ (s : Shape). recordWith s (recordWith (r .shape) (recordIn (drop 2 t)))) same ∙ record-once (r .shape) (recordIn (drop 2 t))),
+          (λ (x : Fields). record { action = r .action (numberAt 1 1 t) (numberAt 2 1 t); fields = x })
+          (ap (λ (s : Shape). fieldsWith s (fieldsWith (r .shape) (fieldsIn (drop 2 t)))) same ∙ fields-once (r .shape) (fieldsIn (drop 2 t))),
       ap widthOf same,
     )
 
@@ -149,10 +152,10 @@ row-written t b code e some h =
     let r = rowOf code in
     let k = row-found code some in
     let action = r .action (numberAt 1 1 t) (numberAt 2 1 t) in
-    ap (λ (s : Shape). bytesWith s (partsOf action) (recordWith (r .shape) (recordIn (drop 2 t)))) (shape-is code some _ _)
-    ∙ record-written (r .shape) (partsOf action) (recordIn (drop 2 t))
-    ∙ k .fair .written (numberAt 1 1 t) (numberAt 2 1 t) (recordIn (drop 2 t))
+    ap (λ (s : Shape). bytesWith s (partsOf action) (fieldsWith (r .shape) (fieldsIn (drop 2 t)))) (shape-is code some _ _)
+    ∙ fields-written (r .shape) (partsOf action) (fieldsIn (drop 2 t))
+    ∙ k .fair .written (numberAt 1 1 t) (numberAt 2 1 t) (fieldsIn (drop 2 t))
     ∙ ap
-    (λ (n : ℕ). bytesWith (r .shape) (record { code = n; first = numberAt 1 1 t; second = numberAt 2 1 t }) (recordIn (drop 2 t)))
+    (λ (n : ℕ). bytesWith (r .shape) (record { code = n; first = numberAt 1 1 t; second = numberAt 2 1 t }) (fieldsIn (drop 2 t)))
     (k .code-of ∙ sym e)
     ∙ bytes-written t b (r .shape) h

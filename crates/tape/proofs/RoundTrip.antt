@@ -19,9 +19,9 @@ use Rattle.tape.specs.declared.Writing.{Writing}
 use Rattle.tape.specs.declared.Writing.the-variants.{Written}
 use Rattle.tape.specs.declared.Writing.the-variants as writing
 use Rattle.refusal.specs.declared.Refusal.{Refusal}
-use Rattle.batch.specs.declared.BatchRecord.{BatchRecord}
+use Rattle.batch.specs.declared.sending.Fields.{Fields}
 use Rattle.wire.specs.Bytes.{Bytes, overwritten}
-use Rattle.wire.specs.Record.{RecordFits}
+use Rattle.wire.specs.Record.{FieldsFit}
 use Rattle.tape.specs.Shape.{widthOf}
 use Rattle.tape.specs.Table.{Row, rowOf, partsOf, shapeOf, commandIn, bytesOf, width, plain}
 use Rattle.tape.specs.Tape.{withNone, readRow, readAt, writeAt, afterWrite}
@@ -30,7 +30,7 @@ use Rattle.tape.specs.RoundTrip.{ReadsBack, WritesBack}
 use Rattle.wire.proofs.Buffer.{length-overwritten, drop-overwritten, put-same}
 use Rattle.wire.proofs.Bytes.{bytes-drop}
 use Rattle.tape.proofs.Cases.{by-row, row-found}
-use Rattle.tape.proofs.Shapes.{record-once, code-read}
+use Rattle.tape.proofs.Shapes.{fields-once, code-read}
 use Rattle.tape.proofs.CommandTable.{some-bytes, code-byte, length-bytesOf, command-read, row-own, row-written}
 
 -- ---- what an answer tells of the tests on the way to it
@@ -132,7 +132,7 @@ room-of bytes place next c e =
 plain-once : (c : Command) → plain (plain c) ≡ plain c
 unfolding plain
 plain-once c =
-    ap (λ (x : BatchRecord). record { action = c .action; «record» = x }) (record-once (shapeOf (c .action)) (c .«record»))
+    ap (λ (x : Fields). record { action = c .action; fields = x }) (fields-once (shapeOf (c .action)) (c .fields))
 
 pub written-reads-back : WrittenReadsBack
 unfolding bytesOf width
@@ -150,7 +150,7 @@ written-reads-back bytes place next c f g e =
     let begins : getD buffer place 0 ≡ code
     = sym (getD-drop place buffer 0 0 ∙ rw add-zero)
     ∙ ap (λ (l : List ℕ). getD l 0 0) from
-    ∙ code-read (partsOf (c .action)) (c .«record») rest (r .shape) some (code-byte (c .action)) in (
+    ∙ code-read (partsOf (c .action)) (c .fields) rest (r .shape) some (code-byte (c .action)) in (
       by-row buffer place (omega (arith, k .room))
           ∙ rw (begins, from)
           (row-found r place (new ++ rest) some (rw length-append (omega arith))
@@ -173,7 +173,7 @@ writes-back bytes place r b e = by-answer (r .answer) refl where
   by-answer End q = tt
   by-answer (answer.Refused x) q = tt
 
-pub reads-back : (bytes after : List ℕ) (place : ℕ) (c : Command) (w : Writing) → OperandsFit (c .action) → RecordFits (c .«record»)
+pub reads-back : (bytes after : List ℕ) (place : ℕ) (c : Command) (w : Writing) → OperandsFit (c .action) → FieldsFit (c .fields)
     → w ≡ writeAt bytes place c → after ≡ afterWrite w bytes place c → ReadsBack w after place c
 unfolding afterWrite
 reads-back bytes after place c (Written next) f g e a = rw a (written-reads-back bytes place next c f g (sym e))

@@ -8,16 +8,16 @@ use native.Mathlib.Nat.{lt-irrefl}
 use native.Mathlib.Omega.{arith}
 use lib.ListN.{length, getD, take, drop, length-drop}
 use lib.Seq.{take-add}
-use Rattle.batch.specs.declared.BatchRecord.{BatchRecord}
+use Rattle.batch.specs.declared.sending.Fields.{Fields}
 use Rattle.wire.specs.Bytes.{little, part, numberAt, Bytes}
-use Rattle.wire.specs.Record.{recordLength, recordBytes, recordIn, RecordFits}
+use Rattle.wire.specs.Record.{recordLength, fieldBytes, fieldsIn, FieldsFit}
 use Rattle.wire.proofs.Numbers.{number-little, number-one}
 use Rattle.wire.proofs.Bytes.{part-written, bytes-drop}
-use Rattle.wire.proofs.Record.{length-record, record-reads-back, record-writes-back}
+use Rattle.wire.proofs.Record.{length-record, fields-read-back, fields-write-back}
 use Rattle.tape.specs.declared.Parts.{Parts}
 use Rattle.tape.specs.declared.Shape.{Shape}
-use Rattle.tape.specs.declared.Shape.the-variants.{Unknown, Bare, Byte, TwoBytes, ByteAndRecord}
-use Rattle.tape.specs.Shape.{widthOf, carries, recordWith, bytesWith}
+use Rattle.tape.specs.declared.Shape.the-variants.{Unknown, Bare, Byte, TwoBytes, ByteAndFields}
+use Rattle.tape.specs.Shape.{widthOf, carries, fieldsWith, bytesWith}
 
 -- which operands of one byte a shape has
 abbrev pub hasFirst : Shape → Bool
@@ -25,14 +25,14 @@ hasFirst Unknown = false
 hasFirst Bare = false
 hasFirst Byte = true
 hasFirst TwoBytes = true
-hasFirst ByteAndRecord = true
+hasFirst ByteAndFields = true
 
 abbrev pub hasSecond : Shape → Bool
 hasSecond Unknown = false
 hasSecond Bare = false
 hasSecond Byte = false
 hasSecond TwoBytes = true
-hasSecond ByteAndRecord = false
+hasSecond ByteAndFields = false
 
 -- a shape that carries a record is as wide as a send
 pub carried-width : (s : Shape) → carries s ≡ true → widthOf s ≡ 42
@@ -40,32 +40,32 @@ carried-width Unknown e = absurd (false≢true e)
 carried-width Bare e = absurd (false≢true e)
 carried-width Byte e = absurd (false≢true e)
 carried-width TwoBytes e = absurd (false≢true e)
-carried-width ByteAndRecord e = refl
+carried-width ByteAndFields e = refl
 
 -- the record that a shape has is had once
-pub record-once : (s : Shape) (x : BatchRecord) → recordWith s (recordWith s x) ≡ recordWith s x
-record-once Unknown x = refl
-record-once Bare x = refl
-record-once Byte x = refl
-record-once TwoBytes x = refl
-record-once ByteAndRecord x = refl
+pub fields-once : (s : Shape) (x : Fields) → fieldsWith s (fieldsWith s x) ≡ fieldsWith s x
+fields-once Unknown x = refl
+fields-once Bare x = refl
+fields-once Byte x = refl
+fields-once TwoBytes x = refl
+fields-once ByteAndFields x = refl
 
-pub record-written : (s : Shape) (p : Parts) (x : BatchRecord) → bytesWith s p (recordWith s x) ≡ bytesWith s p x
+pub fields-written : (s : Shape) (p : Parts) (x : Fields) → bytesWith s p (fieldsWith s x) ≡ bytesWith s p x
 unfolding bytesWith
-record-written Unknown p x = refl
-record-written Bare p x = refl
-record-written Byte p x = refl
-record-written TwoBytes p x = refl
-record-written ByteAndRecord p x = refl
+fields-written Unknown p x = refl
+fields-written Bare p x = refl
+fields-written Byte p x = refl
+fields-written TwoBytes p x = refl
+fields-written ByteAndFields p x = refl
 
-module _ (p : Parts) (x : BatchRecord) where
-  pub length-with : (s : Shape) → RecordFits x → length (bytesWith s p x) ≡ widthOf s
+module _ (p : Parts) (x : Fields) where
+  pub length-with : (s : Shape) → FieldsFit x → length (bytesWith s p x) ≡ widthOf s
   unfolding little bytesWith
   length-with Unknown h = refl
   length-with Bare h = refl
   length-with Byte h = refl
   length-with TwoBytes h = refl
-  length-with ByteAndRecord h = rw (length-record h)
+  length-with ByteAndFields h = rw (length-record h)
 
   -- what reading finds in the bytes of a command, whatever comes after them
   module _ (rest : List ℕ) where
@@ -78,7 +78,7 @@ module _ (p : Parts) (x : BatchRecord) where
     code-read Bare some h = omega arith
     code-read Byte some h = omega arith
     code-read TwoBytes some h = omega arith
-    code-read ByteAndRecord some h = omega arith
+    code-read ByteAndFields some h = omega arith
 
     pub first-read : (s : Shape) → p .first < 256
         → numberAt 1 1 (written s) ≡ cond (hasFirst s) (p .first) (numberAt 1 1 (written s))
@@ -87,7 +87,7 @@ module _ (p : Parts) (x : BatchRecord) where
     first-read Bare h = refl
     first-read Byte h = number-little 1 (p .first) h
     first-read TwoBytes h = number-little 1 (p .first) h
-    first-read ByteAndRecord h = number-little 1 (p .first) h
+    first-read ByteAndFields h = number-little 1 (p .first) h
 
     pub second-read : (s : Shape) → p .second < 256
         → numberAt 2 1 (written s) ≡ cond (hasSecond s) (p .second) (numberAt 2 1 (written s))
@@ -96,15 +96,15 @@ module _ (p : Parts) (x : BatchRecord) where
     second-read Bare h = refl
     second-read Byte h = refl
     second-read TwoBytes h = number-little 1 (p .second) h
-    second-read ByteAndRecord h = refl
+    second-read ByteAndFields h = refl
 
-    pub record-read : (s : Shape) → RecordFits x → recordWith s (recordIn (drop 2 (written s))) ≡ recordWith s x
+    pub fields-read : (s : Shape) → FieldsFit x → fieldsWith s (fieldsIn (drop 2 (written s))) ≡ fieldsWith s x
     unfolding little bytesWith
-    record-read Unknown h = refl
-    record-read Bare h = refl
-    record-read Byte h = refl
-    record-read TwoBytes h = refl
-    record-read ByteAndRecord h = record-reads-back x rest h
+    fields-read Unknown h = refl
+    fields-read Bare h = refl
+    fields-read Byte h = refl
+    fields-read TwoBytes h = refl
+    fields-read ByteAndFields h = fields-read-back x rest h
 
 -- what was read, written, is the bytes that it was read from
 module _ (t : List ℕ) (b : Bytes t) where
@@ -121,12 +121,12 @@ module _ (t : List ℕ) (b : Bytes t) where
       → (little 1 (getD t 0 0) ++ little 1 (numberAt 1 1 t)) ++ ys ≡ take (2 + n) t
   then-written n ys h f = rw (pair-written h, f, ← (take-add 2 n t))
 
-  pub bytes-written : (s : Shape) → widthOf s ≤ length t → bytesWith s partsIn (recordIn (drop 2 t)) ≡ take (widthOf s) t
+  pub bytes-written : (s : Shape) → widthOf s ≤ length t → bytesWith s partsIn (fieldsIn (drop 2 t)) ≡ take (widthOf s) t
   unfolding bytesWith
   bytes-written Unknown h = refl
   bytes-written Bare h = code-written h
   bytes-written Byte h = pair-written h
   bytes-written TwoBytes h = then-written 1 _ (omega arith) (part-written 2 1 t b h)
-  bytes-written ByteAndRecord h =
+  bytes-written ByteAndFields h =
       then-written recordLength _ (omega arith)
-      (record-writes-back (drop 2 t) (bytes-drop 2 t b) (rw length-drop (omega arith)))
+      (fields-write-back (drop 2 t) (bytes-drop 2 t b) (rw length-drop (omega arith)))

@@ -4,7 +4,7 @@ use Prim.Native.Nat.{ℕ, _+_, _<_}
 use mathlib.Core.Path.{_≡_}
 use mathlib.Core.List.{List}
 use Rattle.wire.specs.Bytes.{Bytes, overwritten}
-use Rattle.wire.specs.Record.{RecordFits}
+use Rattle.wire.specs.Record.{FieldsFit}
 use Rattle.tape.specs.declared.Action.{Action}
 use Rattle.tape.specs.declared.Command.{Command}
 use Rattle.tape.specs.declared.ReadAnswer.{ReadAnswer}
@@ -25,20 +25,20 @@ OperandsFit a = (partsOf a .first < 256) × (partsOf a .second < 256)
 abbrev pub found : ℕ → Command → Reading
 found next c = record { answer = Read next; command = c }
 
--- what reading finds where a command was written: the same command, with the blank record where its action has none, and the next place
+-- what reading finds where a command was written: the same command, with the blank fields where its action has none, and the next place
 abbrev pub FoundAgain : List ℕ → ℕ → ℕ → Command → Type 0
 FoundAgain bytes place next c = (readAt bytes place ≡ found next (plain c)) × SameCommand (plain c) c
 
 -- what was written reads back
 abbrev pub WrittenReadsBack : Type 0
 WrittenReadsBack =
-    (bytes : List ℕ) (place next : ℕ) (c : Command) → OperandsFit (c .action) → RecordFits (c .«record»)
+    (bytes : List ℕ) (place next : ℕ) (c : Command) → OperandsFit (c .action) → FieldsFit (c .fields)
     → writeAt bytes place c ≡ Written next → FoundAgain (overwritten bytes place (bytesOf c)) place next c
 
--- so a command without a needless record is read back itself
+-- so a command without needless fields is read back itself
 abbrev pub PlainReadsBack : Type 0
 PlainReadsBack =
-    (bytes : List ℕ) (place next : ℕ) (c : Command) → OperandsFit (c .action) → RecordFits (c .«record») → plain c ≡ c
+    (bytes : List ℕ) (place next : ℕ) (c : Command) → OperandsFit (c .action) → FieldsFit (c .fields) → plain c ≡ c
     → writeAt bytes place c ≡ Written next → readAt (overwritten bytes place (bytesOf c)) place ≡ found next c
 
 -- what was read writes back: the same next place, and the bytes as they were
@@ -47,7 +47,7 @@ ReadWritesBack =
     (bytes : List ℕ) (place next : ℕ) (c : Command) → Bytes bytes → readAt bytes place ≡ found next c
     → (writeAt bytes place c ≡ Written next) × (overwritten bytes place (bytesOf c) ≡ bytes)
 
--- a command that was read has a record only where its action has one, and its width leads to the next place
+-- a command that was read has fields only where its action has them, and its width leads to the next place
 abbrev pub ReadIsPlain : Type 0
 ReadIsPlain =
     (bytes : List ℕ) (place next : ℕ) (c : Command) → readAt bytes place ≡ found next c

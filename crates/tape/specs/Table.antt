@@ -1,5 +1,6 @@
--- The commands of the tape: document 01's table "Command tape". A command is a row: its command byte, its shape, and the action that its
--- operands make. The inverse, the command byte and the operands of an action, is given once beside it. Assumes nothing.
+-- The commands of the tape: the table "Command tape" of document 01, and those of document 02. A command is a row: its command byte, its
+-- shape, and the action that its operands make. The inverse, the command byte and the operands of an action, is given once beside it.
+-- Assumes nothing.
 --
 -- What a new command of a known shape costs: here its row and its line of `partsOf`; in the code the variant of `Action` and a line each of
 -- `row_of` and `parts_of`; in proofs/, where all is computed, a line each in `row_of`, `parts_of` and `made` (CommandTable.antt).
@@ -9,8 +10,9 @@ use mathlib.Core.Bool.{cond}
 use mathlib.Core.List.{List, [], _∷_}
 use lib.Dec.{eqb}
 use lib.ListN.{drop}
-use Rattle.batch.specs.declared.BatchRecord.{BatchRecord}
-use Rattle.batch.specs.Blank.{noRecord}
+use Rattle.batch.specs.declared.sending.Scale.{Scale}
+use Rattle.batch.specs.declared.sending.Scale.the-variants.{Tenths, Hundredths}
+use Rattle.batch.specs.Sending.{noFields}
 use Rattle.numbers.specs.Numbers.{nodeNo, channelNo}
 use Rattle.tape.specs.declared.Action.{Action}
 use Rattle.tape.specs.declared.Action.the-variants.{AddNode, AddChannel, Start, Receive, Send, Enter, Move, Withdraw}
@@ -18,10 +20,10 @@ use Rattle.tape.specs.declared.Command.{Command}
 use Rattle.tape.specs.declared.Parts.{Parts}
 use Rattle.tape.specs.declared.Row as found
 use Rattle.tape.specs.declared.Shape.{Shape}
-use Rattle.tape.specs.declared.Shape.the-variants.{Unknown, Bare, Byte, TwoBytes, ByteAndRecord}
+use Rattle.tape.specs.declared.Shape.the-variants.{Unknown, Bare, Byte, TwoBytes, ByteAndFields}
 use Rattle.wire.specs.Bytes.{numberAt}
-use Rattle.wire.specs.Record.{recordIn}
-use Rattle.tape.specs.Shape.{widthOf, recordWith, bytesWith}
+use Rattle.wire.specs.Record.{fieldsIn}
+use Rattle.tape.specs.Shape.{widthOf, fieldsWith, bytesWith}
 
 -- a row of the table: the command byte, the shape, and the action that the operands of one byte make
 pub record Row : Type 0 where
@@ -38,22 +40,28 @@ commands =
     ∷ row 0x11 TwoBytes (λ sender receiver. AddChannel (nodeNo sender) (nodeNo receiver))
     ∷ row 0x12 Bare (λ a b. Start)
     ∷ row 0x20 Byte (λ channel b. Receive (channelNo channel))
-    ∷ row 0x21 ByteAndRecord (λ channel b. Send (channelNo channel))
+    ∷ row 0x21 ByteAndFields (λ channel b. Send (channelNo channel) Tenths)
     ∷ row 0x22 Byte (λ node b. Enter (nodeNo node))
     ∷ row 0x23 Byte (λ node b. Move (nodeNo node))
     ∷ row 0x24 Byte (λ channel b. Withdraw (channelNo channel))
+    ∷ row 0x25 ByteAndFields (λ channel b. Send (channelNo channel) Hundredths)
     ∷ []
 
 -- the command byte and the operands of one byte of an action, 0 where it has none
 abbrev parts : ℕ → ℕ → ℕ → Parts
 parts code first second = record { code = code; first = first; second = second }
 
+-- the command byte of a send, by the unit of its temperature
+abbrev pub sendCode : Scale → ℕ
+sendCode Tenths = 0x21
+sendCode Hundredths = 0x25
+
 abbrev pub partsOf : Action → Parts
 partsOf (AddNode slots) = parts 0x10 slots 0
 partsOf (AddChannel sender receiver) = parts 0x11 (sender .0) (receiver .0)
 partsOf Start = parts 0x12 0 0
 partsOf (Receive channel) = parts 0x20 (channel .0) 0
-partsOf (Send channel) = parts 0x21 (channel .0) 0
+partsOf (Send channel scale) = parts (sendCode scale) (channel .0) 0
 partsOf (Enter node) = parts 0x22 (node .0) 0
 partsOf (Move node) = parts 0x23 (node .0) 0
 partsOf (Withdraw channel) = parts 0x24 (channel .0) 0
@@ -77,7 +85,7 @@ rowWith r first second = record { shape = r .shape; action = r .action first sec
 unfoldable pub commandIn : Row → List ℕ → Command
 commandIn r b = record {
   action = r .action (numberAt 1 1 b) (numberAt 2 1 b);
-  «record» = recordWith (r .shape) (recordIn (drop 2 b));
+  fields = fieldsWith (r .shape) (fieldsIn (drop 2 b));
 }
 
 -- the shape of a command, how many bytes it takes, and those bytes
@@ -88,17 +96,17 @@ unfoldable pub width : Command → ℕ
 width c = widthOf (shapeOf (c .action))
 
 unfoldable pub bytesOf : Command → List ℕ
-bytesOf c = bytesWith (shapeOf (c .action)) (partsOf (c .action)) (c .«record»)
+bytesOf c = bytesWith (shapeOf (c .action)) (partsOf (c .action)) (c .fields)
 
--- the command of an action that has no record
+-- the command of an action that has no fields
 abbrev pub bareOf : Action → Command
-bareOf a = record { action = a; «record» = noRecord }
+bareOf a = record { action = a; fields = noFields }
 
--- the command with the blank record where its action has none. A command that was read is plain already
+-- the command with the blank fields where its action has none. A command that was read is plain already
 unfoldable pub plain : Command → Command
-plain c = record { action = c .action; «record» = recordWith (shapeOf (c .action)) (c .«record») }
+plain c = record { action = c .action; fields = fieldsWith (shapeOf (c .action)) (c .fields) }
 
--- The same command: the same action, and the same record where the action has one. A record beside any other action says nothing and is
--- not written.
+-- The same command: the same action, and the same fields where the action has them; for a send, the same unit too. Fields beside any other
+-- action say nothing and are not written.
 abbrev pub SameCommand : Command → Command → Type 0
 SameCommand c d = plain c ≡ plain d

@@ -1,7 +1,8 @@
 // The command tape: its commands, a reader and a writer. A tape is a slice of bytes; a command stands at a place of it, its
 // command byte first, then its operands, low byte first. Both answer what the definitions in specs/ say of every place,
 // every byte and every operand value; what was written reads back, and what was read writes back.
-use batch::BatchRecord;
+use batch::sending::Fields;
+use batch::sending::Scale;
 use numbers::ChannelNo;
 use numbers::NodeNo;
 use refusal::Refusal;
@@ -10,31 +11,32 @@ ghost use mathlib.Core.Path.{_≡_};
 ghost use Prim.Native.Nat.{_≤_};
 ghost use lib.ListN.{length, drop};
 ghost use Rattle.wire.specs.Bytes.{numberAt, overwritten};
-ghost use Rattle.wire.specs.Record.{recordIn};
+ghost use Rattle.wire.specs.Record.{fieldsIn};
 ghost use Rattle.tape.specs.declared.Action.the-variants.{Start};
 ghost use Rattle.tape.specs.declared.Shape.the-variants.{Unknown};
-ghost use Rattle.tape.specs.Shape.{widthOf, carries, recordWith, bytesWith};
-ghost use Rattle.tape.specs.Table.{rowOf, rowWith, partsOf};
+ghost use Rattle.tape.specs.Shape.{widthOf, carries, fieldsWith, bytesWith};
+ghost use Rattle.tape.specs.Table.{rowOf, rowWith, sendCode, partsOf};
 ghost use Rattle.tape.specs.Tape.{readAt, writeAt, afterWrite, withNone, readNumber, writeNumber};
 ghost use Rattle.tape.specs.RoundTrip.{ReadsBack, WritesBack};
 
-// What a command does, with its operands of one byte, each of any value: slots, sender and receiver, channel or node.
+// What a command does, with its operands of one byte, each of any value: slots, sender and receiver, channel or node. A send keeps the
+// unit of its temperature, by which it is one command of the tape or another.
 pub enum Action {
     AddNode(u8),
     AddChannel(NodeNo, NodeNo),
     Start,
     Receive(ChannelNo),
-    Send(ChannelNo),
+    Send(ChannelNo, Scale),
     Enter(NodeNo),
     Move(NodeNo),
     Withdraw(ChannelNo),
 }
 
-// A command of the tape. Only a send has a record; beside every other action stands the blank one. (The record has a name
-// of 32 bytes, which no enum can hold, so it stands beside the action.)
+// A command of the tape. Only a send has fields, as they stand on the tape; beside every other action stand the blank ones. (They have a
+// name of 32 bytes, which no enum can hold, so they stand beside the action.)
 pub struct Command {
     pub action: Action,
-    pub record: BatchRecord,
+    pub fields: Fields,
 }
 
 // What stands at a place of the tape. `next` is the place after the command.
@@ -63,7 +65,7 @@ pub enum Shape {
     Bare,
     Byte,
     TwoBytes,
-    ByteAndRecord,
+    ByteAndFields,
 }
 
 // A command byte's row of the table: the shape of its command, and the action that its operands make.
@@ -91,10 +93,17 @@ pub fn row_of(code: u8, first: u8, second: u8) -> Row
         ),
         0x12 => with_shape(Shape::Bare, Action::Start),
         0x20 => with_shape(Shape::Byte, Action::Receive(ChannelNo(first))),
-        0x21 => with_shape(Shape::ByteAndRecord, Action::Send(ChannelNo(first))),
+        0x21 => with_shape(
+            Shape::ByteAndFields,
+            Action::Send(ChannelNo(first), Scale::Tenths),
+        ),
         0x22 => with_shape(Shape::Byte, Action::Enter(NodeNo(first))),
         0x23 => with_shape(Shape::Byte, Action::Move(NodeNo(first))),
         0x24 => with_shape(Shape::Byte, Action::Withdraw(ChannelNo(first))),
+        0x25 => with_shape(
+            Shape::ByteAndFields,
+            Action::Send(ChannelNo(first), Scale::Hundredths),
+        ),
         _ => no_row(),
     }
 }
@@ -112,7 +121,17 @@ fn no_row() -> Row
     with_shape(Shape::Unknown, Action::Start)
 }
 
-// The table, to write: a line for each command.
+// The command byte of a send, by the unit of its temperature.
+fn send_code(scale: Scale) -> u8
+    ensures { λ r. ⌜ r ≡ sendCode scale ⌝ }
+{
+    match scale {
+        Scale::Tenths => 0x21,
+        Scale::Hundredths => 0x25,
+    }
+}
+
+// The table, to write: a line for each action.
 pub fn parts_of(action: Action) -> Parts
     ensures { λ r. ⌜ r ≡ partsOf action ⌝ }
 {
@@ -121,7 +140,7 @@ pub fn parts_of(action: Action) -> Parts
         Action::AddChannel(sender, receiver) => with_operands(0x11, sender.0, receiver.0),
         Action::Start => with_operands(0x12, 0, 0),
         Action::Receive(channel) => with_operands(0x20, channel.0, 0),
-        Action::Send(channel) => with_operands(0x21, channel.0, 0),
+        Action::Send(channel, scale) => with_operands(send_code(scale), channel.0, 0),
         Action::Enter(node) => with_operands(0x22, node.0, 0),
         Action::Move(node) => with_operands(0x23, node.0, 0),
         Action::Withdraw(channel) => with_operands(0x24, channel.0, 0),
@@ -147,12 +166,12 @@ fn width_of(shape: Shape) -> usize
         Shape::Bare => 1,
         Shape::Byte => 2,
         Shape::TwoBytes => 3,
-        Shape::ByteAndRecord => 42,
+        Shape::ByteAndFields => 42,
     }
 }
 
-// Whether a command of a shape has a record.
-fn carries_record(shape: Shape) -> bool
+// Whether a command of a shape has the fields of a send.
+fn carries_fields(shape: Shape) -> bool
     ensures { λ r. ⌜ r ≡ carries shape ⌝ }
 {
     match shape {
@@ -160,7 +179,7 @@ fn carries_record(shape: Shape) -> bool
         Shape::Bare => false,
         Shape::Byte => false,
         Shape::TwoBytes => false,
-        Shape::ByteAndRecord => true,
+        Shape::ByteAndFields => true,
     }
 }
 
@@ -183,15 +202,15 @@ fn row_in(code: u8, bytes: &[u8]) -> Row
     row_of(code, first, second)
 }
 
-// The record of a command whose bytes begin here and are all there; the blank one where its shape has none.
-fn record_in(shape: Shape, bytes: &[u8]) -> BatchRecord
+// The fields of a command whose bytes begin here and are all there; the blank ones where its shape has none.
+fn fields_in(shape: Shape, bytes: &[u8]) -> Fields
     requires { ⌜ widthOf shape ≤ length (now bytes) ⌝ }
-    ensures { λ r. ⌜ r ≡ recordWith shape (recordIn (drop 2 (now (bytes .entry)))) ⌝ }
+    ensures { λ r. ⌜ r ≡ fieldsWith shape (fieldsIn (drop 2 (now (bytes .entry)))) ⌝ }
 {
-    if carries_record(shape) {
-        wire::record_in(&bytes[2..])
+    if carries_fields(shape) {
+        wire::fields_in(&bytes[2..])
     } else {
-        BatchRecord::none()
+        Fields::none()
     }
 }
 
@@ -199,10 +218,10 @@ fn record_in(shape: Shape, bytes: &[u8]) -> BatchRecord
 fn without(answer: ReadAnswer) -> Reading
     ensures { λ r. ⌜ r ≡ withNone answer ⌝ }
 {
-    let record = BatchRecord::none();
+    let fields = Fields::none();
     let command = Command {
         action: Action::Start,
-        record,
+        fields,
     };
     Reading { answer, command }
 }
@@ -229,8 +248,8 @@ pub fn read(bytes: &[u8], place: usize) -> Reading
         return without(ReadAnswer::Refused(Refusal::CommandCut));
     }
     let action = row.action;
-    let record = record_in(shape, &bytes[place..]);
-    let command = Command { action, record };
+    let fields = fields_in(shape, &bytes[place..]);
+    let command = Command { action, fields };
     let next = place + width;
     Reading {
         answer: ReadAnswer::Read { next },
@@ -239,10 +258,10 @@ pub fn read(bytes: &[u8], place: usize) -> Reading
 }
 
 // Puts a command's bytes at the front of a buffer with room for them.
-fn put_command(bytes: &mut [u8], shape: Shape, parts: Parts, record: BatchRecord)
+fn put_command(bytes: &mut [u8], shape: Shape, parts: Parts, sent: Fields)
     requires { ⌜ widthOf shape ≤ length (now bytes) ⌝ }
     ensures { λ _. ⌜ now (bytes .exit)
-        ≡ overwritten (now (bytes .entry)) 0 (bytesWith shape parts «record») ⌝ }
+        ≡ overwritten (now (bytes .entry)) 0 (bytesWith shape parts sent) ⌝ }
 {
     match shape {
         Shape::Unknown => {}
@@ -252,9 +271,9 @@ fn put_command(bytes: &mut [u8], shape: Shape, parts: Parts, record: BatchRecord
             fields::put_pair(bytes, parts.code, parts.first);
             fields::put_u8(&mut bytes[2..], parts.second);
         }
-        Shape::ByteAndRecord => {
+        Shape::ByteAndFields => {
             fields::put_pair(bytes, parts.code, parts.first);
-            wire::put_record(&mut bytes[2..], record);
+            wire::put_fields(&mut bytes[2..], sent);
         }
     }
 }
@@ -277,8 +296,8 @@ pub fn write(bytes: &mut [u8], place: usize, command: Command) -> Writing
     if bytes.len() - place < width {
         return Writing::Refused(Refusal::NoRoomToWrite);
     }
-    let record = command.record;
-    put_command(&mut bytes[place..], shape, parts, record);
+    let sent = command.fields;
+    put_command(&mut bytes[place..], shape, parts, sent);
     let next = place + width;
     Writing::Written { next }
 }

@@ -2,9 +2,10 @@
 //
 // Each takes the head of a ring by value, with the cells and the records lent where they lie, and answers the head after the call and the
 // reply. It opens as every call does; then come its own refusals in the order of document 01, and a refusal leaves the ring as it was.
-use batch;
-use batch::BatchRecord;
 use batch::Verdict;
+use batch::sending;
+use batch::sending::Fields;
+use batch::sending::Scale;
 use network::Cells;
 use network::Head;
 use network::HeadStep;
@@ -18,6 +19,7 @@ use updates::opening::Opening;
 use updates::opening::Subject;
 use updates::opening::open;
 ghost use mathlib.Core.Path.{_≡_};
+ghost use Rattle.batch.specs.Sending.{recordFrom};
 ghost use Rattle.network.specs.Answers.{stepOf};
 ghost use Rattle.network.specs.Layout.{callRing, ringIn, stepIn};
 ghost use Rattle.network.specs.Runs;
@@ -89,7 +91,8 @@ pub fn withdraw(
     accept(resting)
 }
 
-// The record is offered. If the channel is ready, it becomes answering and the record goes out at once as the response.
+// The record of these fields, their temperature in this unit, is offered. If the channel is ready, it becomes answering and the record
+// goes out at once as the response.
 pub fn send(
     mut head: Head,
     slots: &Cells,
@@ -97,11 +100,12 @@ pub fn send(
     offers: &mut Records,
     carried: &mut Records,
     channel: ChannelNo,
-    record: BatchRecord,
+    scale: Scale,
+    fields: Fields,
 ) -> HeadStep
     ensures { λ r. ⌜ stepIn r (now (slots .entry)) (now (lines .exit)) (now (offers .exit)) (now (carried .exit))
         ≡ stepOf (ringIn head (now (slots .entry)) (now (lines .entry)) (now (offers .entry)) (now (carried .entry)))
-        (callRing (Runs.send channel «record»)
+        (callRing (Runs.send channel (recordFrom scale fields))
         (ringIn head (now (slots .entry)) (now (lines .entry)) (now (offers .entry)) (now (carried .entry)))) ⌝ }
 {
     let subject = Subject::Channel(channel);
@@ -109,10 +113,12 @@ pub fn send(
     if let Opening::Refused(refusal) = opening {
         return refuse(head, refusal);
     }
-    let verdict = batch::judge_sent(record);
+    let sent = sending::make(scale, fields);
+    let verdict = sent.verdict;
     if let Verdict::Refused(refusal) = verdict {
         return refuse(head, refusal);
     }
+    let record = sent.record;
     let k = channel.0 as usize;
     let offered = head.offered[k];
     if offered != 0 {

@@ -30,19 +30,25 @@ use history::Row;
 use network::Ring;
 use runner::Session;
 ghost use mathlib.Core.Path.{_≡_};
+ghost use Rattle.batch.specs.declared.sending.Scale.the-variants.{Tenths, Hundredths};
+ghost use Rattle.batch.specs.Sending.{recordFrom};
+ghost use Rattle.convert.specs.TurnedRing.{turnRing};
+ghost use Rattle.convert.specs.TurnedTable.{turnTable};
 ghost use Rattle.history.specs.History as History;
+ghost use Rattle.network.specs.Answers.{replyOf};
 ghost use Rattle.network.specs.Counting.{one};
 ghost use Rattle.network.specs.Dispatch.{afterDispatch};
 ghost use Rattle.network.specs.Dispatcher.{dispatchRing};
 ghost use Rattle.network.specs.Layout.{freshRing, soundRing};
 ghost use Rattle.network.specs.Network.{nodeNo, channelNo};
 ghost use Rattle.network.specs.Runs;
+ghost use Rattle.network.specs.Runs.{after};
 ghost use Rattle.site.specs.InPlace.{ringAfter, answerTo};
 ghost use Rattle.tape.specs.Tape.{readAt};
-ghost use Rattle.by_number.specs.Answers.{numberTo, deliveryTo, roundsTo, hopsLeftIn, waitingIn};
+ghost use Rattle.by_number.specs.Answers.{numbersIn, numberTo, deliveryTo, roundsTo, hopsLeftIn, waitingIn};
 ghost use Rattle.by_number.specs.Commands.{readingIn, writingTo, afterWriting};
 ghost use Rattle.vessel_ring.specs.Listed.{Listed};
-ghost use Rattle.by_number.specs.Records.{recordOf};
+ghost use Rattle.by_number.specs.Records.{fieldsFrom, recordOf};
 ghost use Rattle.by_number.specs.Tables.{figuresIn};
 
 #[no_mangle]
@@ -92,12 +98,24 @@ pub extern "C" fn vessel_ring_receive(ring: &mut Ring, channel: u8) -> u8
     s.refusal
 }
 
+// The record's temperature is in hundredths.
 #[no_mangle]
 pub extern "C" fn vessel_ring_send(ring: &mut Ring, channel: u8, record: Record) -> u8
-    ensures { λ r. ⌜ (now (ring .exit) ≡ ringAfter (Runs.send (channelNo channel) (recordOf «record»)) (now (ring .entry)))
-        × (r ≡ numberTo (Runs.send (channelNo channel) (recordOf «record»)) (now (ring .entry))) ⌝ }
+    ensures { λ r. ⌜ (now (ring .exit) ≡ ringAfter (Runs.send (channelNo channel) (recordFrom Hundredths (fieldsFrom «record»))) (now (ring .entry)))
+        × (r ≡ numberTo (Runs.send (channelNo channel) (recordFrom Hundredths (fieldsFrom «record»))) (now (ring .entry))) ⌝ }
 {
     let s = by_number::send(*ring, channel, record);
+    *ring = s.ring;
+    s.refusal
+}
+
+// The same with the temperature in tenths.
+#[no_mangle]
+pub extern "C" fn vessel_ring_send_tenths(ring: &mut Ring, channel: u8, record: Record) -> u8
+    ensures { λ r. ⌜ (now (ring .exit) ≡ ringAfter (Runs.send (channelNo channel) (recordFrom Tenths (fieldsFrom «record»))) (now (ring .entry)))
+        × (r ≡ numberTo (Runs.send (channelNo channel) (recordFrom Tenths (fieldsFrom «record»))) (now (ring .entry))) ⌝ }
+{
+    let s = by_number::send_tenths(*ring, channel, record);
     *ring = s.ring;
     s.refusal
 }
@@ -164,6 +182,17 @@ pub extern "C" fn vessel_ring_is_sound(ring: &Ring) -> u8
     by_number::is_sound(*ring)
 }
 
+// Turns a ring that is held in tenths into hundredths. No ring call.
+#[no_mangle]
+pub extern "C" fn vessel_ring_to_hundredths(ring: &mut Ring) -> u8
+    ensures { λ r. ⌜ (now (ring .exit) ≡ after (now (ring .entry)) (turnRing (now (ring .entry))))
+        × (r ≡ numbersIn (replyOf (turnRing (now (ring .entry))) .answer) .refusal) ⌝ }
+{
+    let s = convert::rings::turned_told(*ring);
+    *ring = s.ring;
+    s.refusal
+}
+
 #[no_mangle]
 pub extern "C" fn vessel_history_note(table: &mut [Row], record: Record) -> u8
     ensures { λ r. ⌜ (now (table .exit) ≡ History.note (recordOf «record») (now (table .entry)) .table)
@@ -191,6 +220,16 @@ pub extern "C" fn vessel_history_figures(table: &[Row], batch: u32) -> BatchFigu
     let batch = tables::batch_no(batch);
     let figures = history::figures_of(table, batch);
     tables::figures_in(figures)
+}
+
+// A table in tenths of a degree, from before, into hundredths.
+#[no_mangle]
+pub extern "C" fn vessel_history_to_hundredths(table: &mut [Row]) -> u8
+    ensures { λ r. ⌜ (now (table .exit) ≡ turnTable (now (table .entry)) .table)
+        × (r ≡ History.outcomeNumber (turnTable (now (table .entry)) .outcome)) ⌝ }
+{
+    let outcome = convert::tables::turn_table(table);
+    tables::number_in(outcome)
 }
 
 #[no_mangle]

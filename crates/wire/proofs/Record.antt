@@ -1,7 +1,7 @@
 -- A record as bytes: what was written is read, and what was read is written; it takes as many bytes as it should, and all are bytes.
 -- Assumes nothing.
 use Prim.Native.Nat.{_<_, _^_}
-use mathlib.Core.Path.{_≡_, refl}
+use mathlib.Core.Path.{_≡_, refl, ap}
 use mathlib.Core.List.{_++_}
 use native.Mathlib.Omega.{arith}
 use lib.IntN.{ℤ, pos, negsuc}
@@ -11,8 +11,10 @@ use lib.Seq.{take-at, take-add}
 use Rattle.batch.specs.declared.BatchRecord.{BatchRecord}
 use Rattle.batch.specs.Good.{nameLimit}
 use Rattle.batch.specs.Blank.{noRecord}
+use Rattle.batch.specs.Sending.{sameNumbers, fieldsOf}
 use Rattle.wire.specs.Bytes.{little, numberAt, twos, Bytes}
 use Rattle.wire.specs.Record.{recordLength, recordBytes, recordIn, RecordFits, RecordReadsBack, RecordWritesBack}
+use Rattle.wire.specs.Record.{FieldsReadBack, FieldsWriteBack}
 use Rattle.wire.proofs.Numbers.{number-little, signed-twos, twos-signed}
 use Rattle.wire.proofs.Bytes.{bytes-append, little-bytes, part-written, part-bound}
 
@@ -51,6 +53,13 @@ record-writes-back b s h =
       ← (take-add 7 1 b),
       ← (take-add 8 nameLimit b),
     )
+
+-- the same of the fields of a send
+pub fields-read-back : FieldsReadBack
+fields-read-back f rest fits = ap fieldsOf (record-reads-back (sameNumbers f) rest fits)
+
+pub fields-write-back : FieldsWriteBack
+fields-write-back b s h = record-writes-back b s h
 
 -- ---- how many bytes, and which
 

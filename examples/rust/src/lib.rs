@@ -13,6 +13,7 @@ pub const HISTORY_ROWS: usize = 128;
 pub const READINGS: usize = 24;
 
 pub const NOT_RESTING: u8 = 10;
+pub const UNSOUND_RING: u8 = 25;
 pub const BLANK_END: u8 = 30;
 
 #[repr(C)]
@@ -155,6 +156,7 @@ mod c {
         pub fn vessel_ring_start(ring: &mut Ring) -> u8;
         pub fn vessel_ring_receive(ring: &mut Ring, channel: u8) -> u8;
         pub fn vessel_ring_send(ring: &mut Ring, channel: u8, record: Record) -> u8;
+        pub fn vessel_ring_send_tenths(ring: &mut Ring, channel: u8, record: Record) -> u8;
         pub fn vessel_ring_enter(ring: &mut Ring, node: u8) -> u8;
         pub fn vessel_ring_move(ring: &mut Ring, node: u8) -> Delivery;
         pub fn vessel_ring_dispatch(ring: &mut Ring, rounds: u16) -> Dispatched;
@@ -162,9 +164,11 @@ mod c {
         pub fn vessel_ring_hops_left(ring: &Ring, channel: u8) -> Hops;
         pub fn vessel_ring_waiting_set(ring: &Ring, node: u8) -> Waiting;
         pub fn vessel_ring_is_sound(ring: &Ring) -> u8;
+        pub fn vessel_ring_to_hundredths(ring: &mut Ring) -> u8;
         pub fn vessel_history_note(table: *mut Row, rows: usize, record: Record) -> u8;
         pub fn vessel_history_close(table: *mut Row, rows: usize, batch: u32) -> u8;
         pub fn vessel_history_figures(table: *const Row, rows: usize, batch: u32) -> Figures;
+        pub fn vessel_history_to_hundredths(table: *mut Row, rows: usize) -> u8;
         pub fn vessel_tape_read(bytes: *const u8, length: usize, place: usize) -> Reading;
         pub fn vessel_tape_write(bytes: *mut u8, length: usize, place: usize, command: Command) -> Writing;
         pub fn vessel_ring_list(tape: *const u8, length: usize, out: *mut u8, room: usize) -> usize;
@@ -205,6 +209,11 @@ impl Ring {
         unsafe { c::vessel_ring_send(self, channel, record) }
     }
 
+    /// A send whose temperature is in tenths.
+    pub fn send_tenths(&mut self, channel: u8, record: Record) -> u8 {
+        unsafe { c::vessel_ring_send_tenths(self, channel, record) }
+    }
+
     pub fn enter(&mut self, node: u8) -> u8 {
         unsafe { c::vessel_ring_enter(self, node) }
     }
@@ -232,6 +241,11 @@ impl Ring {
     pub fn is_sound(&self) -> bool {
         unsafe { c::vessel_ring_is_sound(self) == 1 }
     }
+
+    /// Turns a ring held in tenths into one held in hundredths.
+    pub fn to_hundredths(&mut self) -> u8 {
+        unsafe { c::vessel_ring_to_hundredths(self) }
+    }
 }
 
 impl Dispatched {
@@ -254,6 +268,11 @@ pub fn close(table: &mut [Row], batch: u32) -> u8 {
 /// The figures of a batch in a history.
 pub fn figures(table: &[Row], batch: u32) -> Figures {
     unsafe { c::vessel_history_figures(table.as_ptr(), table.len(), batch) }
+}
+
+/// Turns a history held in tenths into one held in hundredths.
+pub fn to_hundredths(table: &mut [Row]) -> u8 {
+    unsafe { c::vessel_history_to_hundredths(table.as_mut_ptr(), table.len()) }
 }
 
 pub fn read(tape: &[u8], place: usize) -> Reading {

@@ -95,6 +95,7 @@ fn damaged(ring: &Ring) {
         copy.start(),
         copy.receive(0),
         copy.send(0, Record::default()),
+        copy.send_tenths(0, Record::default()),
         copy.enter(0),
         copy.move_on(0).refusal,
         copy.dispatch(1).refusal,
@@ -145,7 +146,7 @@ fn taped() {
 fn main() {
     let mut name = [0; 32];
     name[..2].copy_from_slice(b"A1");
-    let record = Record { batch: 7, vessel: 3, temperature: 612, name_length: 2, name };
+    let record = Record { batch: 7, vessel: 3, temperature: 612, name_length: 2, name }; // tenths, as on the tape of document 01
 
     let mut ring = Ring::fresh();
     let mut listing = Listing::new();
@@ -157,12 +158,12 @@ fn main() {
     listing.ask(&mut ring, 0);
     listing.plain(0x22, ring.enter(0));
     listing.moved(ring.move_on(0));
-    listing.plain(0x21, ring.send(0, record));
+    listing.plain(0x21, ring.send_tenths(0, record));
     listing.plain(0x22, ring.enter(1));
     listing.moved(ring.move_on(1));
     listing.moved(ring.move_on(1));
     println!("end {} {}", listing.accepted, listing.refused);
-    ring.send(0, Record { temperature: 634, ..record });
+    ring.send(0, Record { temperature: 6345, ..record }); // hundredths
     ring.receive(0);
     listing.dispatch(&mut ring);
     damaged(&ring);

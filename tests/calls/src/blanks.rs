@@ -1,9 +1,10 @@
 //! What calls show of blanks at the ends of a name, request N4 of document 02: send refuses such a name, and a ring that holds one runs on.
 
+use crate::sights::Sights;
+use calls::form::blank_ended;
 use calls::model::{Answer, Call};
 use second_model::coverage::{Names, NAME_SIGHTS};
-use std::collections::BTreeMap;
-use vessel_ring::{Ring, RECORD_BYTES};
+use vessel_ring::Ring;
 
 /// What has to be seen of rings that hold such a name. Of sends it is what tapes have to show too, `NAME_SIGHTS`.
 const SIGHTS: [&str; 5] = [
@@ -16,33 +17,26 @@ const SIGHTS: [&str; 5] = [
 
 pub struct Blanks {
     sends: Names,
-    sights: BTreeMap<&'static str, u64>,
+    sights: Sights,
 }
 
 impl Default for Blanks {
     fn default() -> Blanks {
-        Blanks { sends: Names::default(), sights: SIGHTS.into_iter().map(|name| (name, 0)).collect() }
+        Blanks { sends: Names::default(), sights: Sights::of(&SIGHTS) }
     }
-}
-
-/// Whether a record in the ring has a name with a blank at an end. Where there is no record all is zero.
-fn blank_ended(bytes: &[u8; RECORD_BYTES]) -> bool {
-    let (length, name) = (usize::from(bytes[7]), &bytes[8..]);
-    name.get(..length).is_some_and(|name| name.starts_with(b" ") || name.ends_with(b" "))
 }
 
 impl Blanks {
     fn see(&mut self, holds: bool, name: &'static str) {
-        *self.sights.get_mut(name).expect("a name of the list") += u64::from(holds);
+        self.sights.see(holds, name);
     }
 
     /// A call on a sound ring that answered as it has to, with the ring before it and after it.
     pub fn call(&mut self, call: Call, answer: Answer, before: &Ring, after: &Ring) {
         match (call, answer) {
-            (Call::Send(k, record), _) => {
+            (Call::Send(k, record) | Call::SendTenths(k, record), _) => {
                 let offered = before.offered.get(usize::from(k)) == Some(&1);
-                let number = if let Answer::Refused(number) = answer { number } else { 0 };
-                self.sends.look(record.length, &record.name, offered, number);
+                self.sends.look(record.length, &record.name, offered, answer.number());
             }
             (Call::Move(_), Answer::Delivered(k, _)) => self.see(blank_ended(&before.carried[k]), "move: a blank-ended record delivered"),
             (Call::Move(p), Answer::Done) => self.moved(p, before, after),
@@ -68,6 +62,6 @@ impl Blanks {
     /// How often each was seen.
     pub fn sights(&self) -> impl Iterator<Item = (String, u64)> + '_ {
         let sends = NAME_SIGHTS.iter().zip(self.sends.0).map(|(name, times)| (format!("send: {name}"), times.into()));
-        sends.chain(self.sights.iter().map(|(name, times)| (name.to_string(), *times)))
+        sends.chain(self.sights.counts())
     }
 }

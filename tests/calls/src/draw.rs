@@ -1,11 +1,52 @@
 //! What is drawn: records, rings made by calls and by hand, and calls with arguments in and out of range.
 
-use crate::model::{Call, Channel, Network, Node, Phase, Record};
+use crate::model::{Call, Channel, Network, Node, Phase, Record, HUNDREDTHS, TENTHS};
 pub use second_model::generate::Random;
+use second_model::generate::{EDGE_HUNDREDTHS, EDGE_TENTHS};
 use std::collections::VecDeque;
+use std::ops::RangeInclusive;
+
+/// What is drawn of temperatures in a unit: those in range, and some on both sides of every edge.
+struct Temperatures {
+    range: RangeInclusive<i16>,
+    edges: &'static [i16],
+}
+
+const IN_HUNDREDTHS: Temperatures = Temperatures { range: HUNDREDTHS, edges: &EDGE_HUNDREDTHS };
+const IN_TENTHS: Temperatures = Temperatures { range: TENTHS, edges: &EDGE_TENTHS };
+
+impl Temperatures {
+    /// In range, and often at an edge.
+    fn good(&self, random: &mut Random) -> i16 {
+        let (coldest, hottest) = (*self.range.start(), *self.range.end());
+        let inside = coldest + random.between(0, (hottest - coldest) as usize) as i16;
+        let edge = random.pick(self.edges);
+        let edge = if self.range.contains(&edge) { edge } else { inside };
+        random.pick(&[inside, coldest, hottest, edge])
+    }
+
+    /// Out of range, at an edge.
+    fn bad(&self, random: &mut Random) -> i16 {
+        loop {
+            let edge = random.pick(self.edges);
+            if !self.range.contains(&edge) {
+                return edge;
+            }
+        }
+    }
+}
 
 /// A good record without a blank at an end of its name, so that send takes it.
 pub fn good_record(random: &mut Random) -> Record {
+    good_record_of(random, &IN_HUNDREDTHS)
+}
+
+/// The same with its temperature in tenths.
+pub fn good_record_in_tenths(random: &mut Random) -> Record {
+    good_record_of(random, &IN_TENTHS)
+}
+
+fn good_record_of(random: &mut Random, temperatures: &Temperatures) -> Record {
     let drawn = random.between(0, 32);
     let length = random.pick(&[0, drawn, 32]);
     let mut name = [0; 32];
@@ -14,8 +55,7 @@ pub fn good_record(random: &mut Random) -> Record {
         let lowest = if at == 0 || at == last { 0x21 } else { 0x20 };
         *byte = random.between(lowest, 0x7E) as u8;
     }
-    let inside = random.between(0, 1600) as i16 - 400;
-    let temperature = random.pick(&[inside, -400, 1200]);
+    let temperature = temperatures.good(random);
     let batch = random.draw() as u32;
     Record { batch: batch.max(1), vessel: random.byte(), temperature, length: length as u8, name }
 }
@@ -39,12 +79,12 @@ fn put_blank_end(random: &mut Random, record: &mut Record) {
 }
 
 /// A record that is often refused, for one reason or for several.
-pub fn record(random: &mut Random) -> Record {
-    let mut record = good_record(random);
+fn record_of(random: &mut Random, temperatures: &Temperatures) -> Record {
+    let mut record = good_record_of(random, temperatures);
     while random.percent(25) {
         match random.below(7) {
             0 => record.batch = 0,
-            1 => record.temperature = random.pick(&[-401, 1201, i16::MIN, i16::MAX]),
+            1 => record.temperature = temperatures.bad(random),
             2 => record.length = random.pick(&[33, 255, record.length.wrapping_add(1)]),
             3 => record.name[random.below(32)] = random.pick(&[0, 0x1F, 0x7F, 0x41, 255]),
             4 => record.length = record.length.saturating_sub(1),
@@ -52,6 +92,43 @@ pub fn record(random: &mut Random) -> Record {
         }
     }
     record
+}
+
+pub fn record(random: &mut Random) -> Record {
+    record_of(random, &IN_HUNDREDTHS)
+}
+
+/// The same to be sent in tenths.
+pub fn record_in_tenths(random: &mut Random) -> Record {
+    record_of(random, &IN_TENTHS)
+}
+
+/// Gives the records that a network holds temperatures in tenths: sound before, it is sound in tenths then. Now and then they are so small
+/// that it is once more when it was turned.
+pub fn put_in_tenths(random: &mut Random, network: &mut Network) {
+    let small = random.percent(25);
+    for record in held(network) {
+        record.temperature = if small { random.between(0, 160) as i16 - 40 } else { IN_TENTHS.good(random) };
+    }
+}
+
+/// The records that a network offers or carries, by channel.
+fn held(network: &mut Network) -> impl Iterator<Item = &mut Record> {
+    network.channels.iter_mut().flat_map(|channel| {
+        let carried = match &mut channel.phase {
+            Phase::Answering(record) => Some(record),
+            _ => None,
+        };
+        carried.into_iter().chain(&mut channel.offer)
+    })
+}
+
+/// Gives one of these records a temperature that is out of range in tenths; answers whether there is a record.
+pub fn put_one_out(random: &mut Random, network: &mut Network) -> bool {
+    let count = held(network).count();
+    let drawn = random.below(count.max(1));
+    let record = held(network).nth(drawn);
+    record.map(|record| record.temperature = IN_TENTHS.bad(random)).is_some()
 }
 
 /// A number that is mostly below `end`.
@@ -99,7 +176,7 @@ pub fn plan(random: &mut Random) -> Vec<Call> {
     calls
 }
 
-/// Any of the ten calls, alike often.
+/// Any of the ten calls, alike often; send in either unit.
 pub fn any_call(random: &mut Random, nodes: usize, channels: usize) -> Call {
     let kind = random.below(10);
     call_of(random, kind, nodes, channels)
@@ -114,6 +191,7 @@ fn call_of(random: &mut Random, kind: usize, nodes: usize, channels: usize) -> C
         1 => Call::AddChannel(number(random, nodes), number(random, nodes)),
         2 => Call::Start,
         3 => Call::Receive(number(random, channels)),
+        4 if random.percent(50) => Call::SendTenths(number(random, channels), record_in_tenths(random)),
         4 => Call::Send(number(random, channels), record(random)),
         5 => Call::Enter(number(random, nodes)),
         6 => Call::Move(number(random, nodes)),
@@ -171,4 +249,17 @@ pub fn by_hand(random: &mut Random) -> Network {
     }
     let drawn = random.draw() as u32;
     Network { nodes, channels, started: true, deliveries: random.pick(&[0, drawn, u32::MAX - 1, u32::MAX]) }
+}
+
+/// The ring with the most records: on each of 64 channels one is carried and another offered.
+pub fn full(random: &mut Random) -> Network {
+    let mut nodes = vec![Node { slots: 64, ..Node::default() }; 16];
+    let mut channels = Vec::new();
+    for k in 0..64 {
+        let (sender, receiver) = (random.below(16), random.below(16));
+        nodes[sender].line.push_back(k);
+        let phase = Phase::Answering(held_record(random));
+        channels.push(Channel { sender, receiver, phase, offer: Some(held_record(random)) });
+    }
+    Network { nodes, channels, started: true, deliveries: 0 }
 }

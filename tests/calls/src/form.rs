@@ -25,6 +25,12 @@ pub fn record_in(bytes: &[u8; RECORD_BYTES]) -> Record {
     }
 }
 
+/// Whether a record in the ring has a name with a blank at an end. Where there is no record all is zero.
+pub fn blank_ended(bytes: &[u8; RECORD_BYTES]) -> bool {
+    let (length, name) = (usize::from(bytes[7]), &bytes[8..]);
+    name.get(..length).is_some_and(|name| name.starts_with(b" ") || name.ends_with(b" "))
+}
+
 pub fn to_c(record: Record) -> vessel_ring::Record {
     let Record { batch, vessel, temperature, length, name } = record;
     vessel_ring::Record { batch, vessel, name_length: length, temperature, name }
@@ -136,10 +142,22 @@ fn channels_in(ring: &Ring) -> Option<Vec<Channel>> {
         .collect()
 }
 
-/// The network that a ring is, if it is sound. Laid out again it has to be this ring: so flags are 0 or 1 and what holds nothing is zero.
-pub fn sound_network(ring: &Ring) -> Option<Network> {
+/// The network that a ring is. Laid out again it has to be this ring: so flags are 0 or 1 and what holds nothing is zero.
+fn network_in(ring: &Ring) -> Option<Network> {
     let channels = channels_in(ring)?;
     let nodes = nodes_in(ring, channels.len())?;
     let network = Network { nodes, channels, started: ring.started == 1, deliveries: ring.deliveries };
-    (lay(&network) == *ring && network.sound()).then_some(network)
+    (lay(&network) == *ring).then_some(network)
+}
+
+/// The network that a ring is, if it is sound.
+pub fn sound_network(ring: &Ring) -> Option<Network> {
+    network_in(ring).filter(Network::sound)
+}
+
+/// The ring turned from tenths into hundredths, if it is sound in tenths.
+pub fn turned(ring: &Ring) -> Option<Ring> {
+    let mut network = network_in(ring).filter(Network::sound_in_tenths)?;
+    network.to_hundredths();
+    Some(lay(&network))
 }

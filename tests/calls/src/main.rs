@@ -1,10 +1,12 @@
 //! calls COUNT SEED: makes COUNT calls of the library, each also on the model and, where the ring is sound, on the second model, and
 //! compares the answer and every byte of the ring after it.
 //! The rings come from runs from a fresh one, from hand-made ones, and from both with bytes changed. Besides, commands are read and
-//! written. Fails on a difference, when a refusal from 1 to 28 or 30 was never answered, and when withdrawals or names (blanks.rs) showed
-//! too little.
+//! written, and rings held in tenths are turned into hundredths (turns.rs) and called on. Fails on a difference, when a refusal from 1 to
+//! 28 or 30 was never answered, and when withdrawals, names (blanks.rs), temperatures or turned rings showed too little.
 
 mod blanks;
+mod sights;
+mod turns;
 
 use blanks::Blanks;
 use calls::draw::{self, Random};
@@ -13,7 +15,11 @@ use calls::model::{Answer, Call, Network};
 use calls::second;
 use calls::tape::{self, Read};
 use damaged_rings::damage::{change_place, change_whole};
+use second_model::coverage::{Temperatures, TEMPERATURE_SIGHTS};
+use second_model::ring::Unit;
+use sights::Sights;
 use std::process::ExitCode;
+use turns::{Turns, Waiting};
 use vessel_ring::{Command, Reading, Ring};
 
 /// Accepted withdrawals; those of them that left a marked line empty, so that the mark went; and those that took the first out of a marked
@@ -38,26 +44,66 @@ impl Withdrawals {
     }
 }
 
+/// What has to be seen of the two commands that send.
+const COMMAND_SIGHTS: [&str; 4] = ["read: command 21", "read: command 25", "written: command 21", "written: command 25"];
+
 /// How often each refusal was answered; 0 is none.
-#[derive(Default)]
 struct Tally {
     calls: u64,
     refusals: [u64; 31],
     deliveries: u64,
     withdrawals: Withdrawals,
     blanks: Blanks,
+    temperatures: Temperatures,
+    turns: Turns,
     damaged: u64,
     still_sound: u64,
     commands: u64,
+    command_sights: Sights,
 }
 
 impl Tally {
+    fn new() -> Tally {
+        Tally {
+            calls: 0,
+            refusals: [0; 31],
+            deliveries: 0,
+            withdrawals: Withdrawals::default(),
+            blanks: Blanks::default(),
+            temperatures: Temperatures::default(),
+            turns: Turns::default(),
+            damaged: 0,
+            still_sound: 0,
+            commands: 0,
+            command_sights: Sights::of(&COMMAND_SIGHTS),
+        }
+    }
+
+    /// A send on a sound ring, with what it answered.
+    fn sent(&mut self, call: Call, answer: Answer) {
+        let fields = match call {
+            Call::Send(_, record) => second::fields(Unit::Hundredths, record),
+            Call::SendTenths(_, record) => second::fields(Unit::Tenths, record),
+            _ => return,
+        };
+        self.temperatures.look(&fields, answer.number());
+    }
+
+    /// What has to be seen of temperatures and of commands.
+    fn sights(&self) -> impl Iterator<Item = (String, u64)> + '_ {
+        let temperatures = TEMPERATURE_SIGHTS.iter().zip(self.temperatures.sights);
+        let sends = temperatures.map(|(name, times)| (format!("send: {name}"), times.into()));
+        sends.chain(self.command_sights.counts())
+    }
+
     fn print(&self) {
         let Tally { calls, deliveries, damaged, still_sound, commands, .. } = self;
         println!("{calls} calls, {deliveries} deliveries; {damaged} damaged rings, {still_sound} still sound; {commands} commands read or written");
         let Withdrawals { all, marks_cleared, marks_kept } = self.withdrawals;
         println!("{all} withdrawals: marks cleared {marks_cleared}, marks kept {marks_kept}");
         self.blanks.print();
+        self.sights().for_each(|(name, times)| println!("{times:8} {name}"));
+        self.turns.print();
         for (number, times) in self.refusals.iter().enumerate().skip(1) {
             print!("{number}:{times} ");
         }
@@ -75,7 +121,8 @@ impl Tally {
             ("a withdrawal of the first that keeps a mark", marks_kept),
         ];
         let withdrawals = withdrawals.map(|(name, times)| (name.to_string(), times));
-        refusals.chain(withdrawals).chain(self.blanks.sights()).filter(|(_, times)| *times == 0).map(|(name, _)| name).collect()
+        let sights = self.blanks.sights().chain(self.sights()).chain(self.turns.sights());
+        refusals.chain(withdrawals).chain(sights).filter(|(_, times)| *times == 0).map(|(name, _)| name).collect()
     }
 }
 
@@ -95,6 +142,7 @@ fn library(ring: &mut Ring, call: Call) -> Answer {
         Call::Start => plain(ring.start()),
         Call::Receive(channel) => plain(ring.receive(channel)),
         Call::Send(channel, record) => plain(ring.send(channel, to_c(record))),
+        Call::SendTenths(channel, record) => plain(ring.send_tenths(channel, to_c(record))),
         Call::Enter(node) => plain(ring.enter(node)),
         Call::Move(node) => {
             let moved = ring.move_on(node);
@@ -140,8 +188,8 @@ impl Pair {
         Pair { ring, model: form::sound_network(&ring) }
     }
 
-    /// One call on both. Says what differs.
-    fn call(&mut self, call: Call, tally: &mut Tally) -> Result<(), String> {
+    /// One call on both, and what it answers. Says what differs.
+    fn call(&mut self, call: Call, tally: &mut Tally) -> Result<Answer, String> {
         let before = self.ring;
         let given = library(&mut self.ring, call);
         let expected = self.model.as_mut().map_or(Answer::Refused(25), |network| network.call(call));
@@ -170,8 +218,9 @@ impl Pair {
         }
         if self.model.is_some() {
             tally.blanks.call(call, given, &before, &self.ring);
+            tally.sent(call, given);
         }
-        Ok(())
+        Ok(given)
     }
 
     fn size(&self) -> (usize, usize) {
@@ -200,8 +249,8 @@ fn sound_run(random: &mut Random, tally: &mut Tally) -> Result<Pair, String> {
     Ok(pair)
 }
 
-/// The ring with bytes changed; then some calls on what it is now.
-fn damaged_run(ring: &Ring, random: &mut Random, tally: &mut Tally) -> Result<(), String> {
+/// The ring with bytes changed.
+fn changed(ring: &Ring, random: &mut Random) -> Ring {
     let mut bytes = ring.to_bytes();
     if random.percent(5) {
         change_whole(&mut bytes, random);
@@ -210,7 +259,38 @@ fn damaged_run(ring: &Ring, random: &mut Random, tally: &mut Tally) -> Result<()
             change_place(&mut bytes, random);
         }
     }
-    let mut pair = Pair::of(Ring::from_bytes(&bytes));
+    Ring::from_bytes(&bytes)
+}
+
+/// A ring like this that is held in tenths: turned into hundredths, then called on, and turned again; and the ring in tenths with one
+/// temperature out of range, with one where no record is, and with bytes changed.
+fn turned_run(mut network: Network, random: &mut Random, tally: &mut Tally) -> Result<(), String> {
+    tally.turns.turn(&form::lay(&network))?;
+    draw::put_in_tenths(random, &mut network);
+    let ring = form::lay(&network);
+    let turned = tally.turns.turn(&ring)?.ok_or_else(|| format!("made sound in tenths, and refused: {ring:?}"))?;
+    tally.turns.turn_again(&turned)?;
+    let (mut pair, mut waiting) = (Pair::of(turned), Waiting::of(&ring));
+    for _ in 0..random.between(0, 100) {
+        let (nodes, channels) = pair.size();
+        let answer = pair.call(draw::running_call(random, nodes, channels), tally)?;
+        if let Answer::Delivered(k, record) = answer {
+            waiting.delivered(k, &record, &mut tally.turns)?;
+        }
+    }
+    let mut stray = ring;
+    stray.offers[random.below(64)][5..7].copy_from_slice(&i16::MIN.to_le_bytes());
+    tally.turns.turn(&stray)?;
+    tally.turns.turn_damaged(&changed(&ring, random))?;
+    if draw::put_one_out(random, &mut network) {
+        tally.turns.turn(&form::lay(&network))?;
+    }
+    Ok(())
+}
+
+/// The ring with bytes changed; then some calls on what it is now.
+fn damaged_run(ring: &Ring, random: &mut Random, tally: &mut Tally) -> Result<(), String> {
+    let mut pair = Pair::of(changed(ring, random));
     tally.damaged += 1;
     tally.still_sound += u64::from(pair.model.is_some());
     let (nodes, channels) = pair.size();
@@ -226,14 +306,15 @@ fn command_of(call: Call) -> Option<Command> {
         Call::AddChannel(sender, receiver) => (0x11, sender, receiver),
         Call::Start => (0x12, 0, 0),
         Call::Receive(channel) => (0x20, channel, 0),
-        Call::Send(channel, _) => (0x21, channel, 0),
+        Call::SendTenths(channel, _) => (0x21, channel, 0),
+        Call::Send(channel, _) => (0x25, channel, 0),
         Call::Enter(node) => (0x22, node, 0),
         Call::Move(node) => (0x23, node, 0),
         Call::Withdraw(channel) => (0x24, channel, 0),
         Call::HopsLeft(_) | Call::WaitingSet(_) => return None,
     };
     let record = match call {
-        Call::Send(_, record) => to_c(record),
+        Call::Send(_, record) | Call::SendTenths(_, record) => to_c(record),
         _ => vessel_ring::Record::default(),
     };
     Some(Command { code, first, second, record })
@@ -244,7 +325,7 @@ fn commands(random: &mut Random, tally: &mut Tally) -> Result<(), String> {
     let mut tape: Vec<u8> = (0..random.below(100)).map(|_| random.byte()).collect();
     for byte in &mut tape {
         if random.percent(50) {
-            *byte = random.pick(&[0x10, 0x11, 0x12, 0x20, 0x21, 0x22, 0x23, 0x24]);
+            *byte = random.pick(&[0x10, 0x11, 0x12, 0x20, 0x21, 0x22, 0x23, 0x24, 0x25]);
         }
     }
     let drawn = random.between(0, tape.len() + 1);
@@ -252,7 +333,7 @@ fn commands(random: &mut Random, tally: &mut Tally) -> Result<(), String> {
     compare_reading(&tape, place, tally)?;
     let call = draw::any_call(random, 200, 200);
     let mut command = command_of(call).unwrap_or_default();
-    if random.percent(50) && command.code != 0x21 {
+    if random.percent(50) && ![0x21, 0x25].contains(&command.code) {
         command.record = to_c(draw::record(random));
     }
     let mut by_model = tape.clone();
@@ -266,6 +347,8 @@ fn commands(random: &mut Random, tally: &mut Tally) -> Result<(), String> {
     if given != expected || tape != by_model || (given.is_err() && writing.next != 0) {
         return Err(format!("{command:?} written at {place} of {before:?}: {writing:?}, {tape:?}; the model: {expected:?}"));
     }
+    tally.command_sights.see(given.is_ok() && command.code == 0x21, "written: command 21");
+    tally.command_sights.see(given.is_ok() && command.code == 0x25, "written: command 25");
     compare_reading(&tape, place, tally)
 }
 
@@ -284,6 +367,8 @@ fn compare_reading(tape: &[u8], place: usize, tally: &mut Tally) -> Result<(), S
     if !same {
         return Err(format!("{tape:?} at {place}: {reading:?}; the model: {expected:?}"));
     }
+    tally.command_sights.see(reading.command.code == 0x21, "read: command 21");
+    tally.command_sights.see(reading.command.code == 0x25, "read: command 25");
     Ok(())
 }
 
@@ -298,6 +383,9 @@ fn all_ff(tally: &mut Tally, random: &mut Random) -> Result<(), String> {
 
 fn compare(count: u64, seed: u64, tally: &mut Tally) -> Result<(), String> {
     all_ff(tally, &mut Random::new(seed))?;
+    tally.turns.turn(&Ring::fresh())?;
+    tally.turns.turn(&Ring::from_bytes(&[0xFF; 7496]))?;
+    turned_run(draw::full(&mut Random::new(seed)), &mut Random::new(seed), tally)?;
     let mut run = 0;
     while tally.calls < count {
         let mut random = Random::new(seed.wrapping_mul(0x9E37_79B9_7F4A_7C15) ^ run);
@@ -306,6 +394,7 @@ fn compare(count: u64, seed: u64, tally: &mut Tally) -> Result<(), String> {
         for _ in 0..3 {
             damaged_run(&pair.ring, &mut random, tally).map_err(in_run)?;
         }
+        turned_run(pair.model.expect("the run's ring is sound"), &mut random, tally).map_err(in_run)?;
         for _ in 0..20 {
             commands(&mut random, tally).map_err(in_run)?;
         }
@@ -320,7 +409,7 @@ fn main() -> ExitCode {
         eprintln!("calls COUNT SEED");
         return ExitCode::from(2);
     };
-    let mut tally = Tally::default();
+    let mut tally = Tally::new();
     if let Err(difference) = compare(count, seed, &mut tally) {
         println!("{difference}");
         return ExitCode::FAILURE;

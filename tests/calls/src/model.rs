@@ -1,8 +1,15 @@
-//! Document 01 with requests N1, N3 and N4 of 02 once more, from their text alone: buffers and lines are queues, and a message's way is
+//! Document 01 with requests N1, N3, N4 and N5 of 02 once more, from their text alone: buffers and lines are queues, and a message's way is
 //! walked node by node. Nothing here knows how a ring lies in memory.
 
 use std::collections::VecDeque;
+use std::ops::RangeInclusive;
 
+/// "A record's temperature becomes hundredths, from -4000 to 12000"
+pub const HUNDREDTHS: RangeInclusive<i16> = -4000..=12000;
+/// "tenths, which are checked against -400 to 1200"
+pub const TENTHS: RangeInclusive<i16> = -400..=1200;
+
+/// A record; or what a send is given for one, good or bad, with the temperature in the unit of the call.
 #[derive(Clone, Copy, PartialEq, Eq, Debug)]
 pub struct Record {
     pub batch: u32,
@@ -14,11 +21,11 @@ pub struct Record {
 
 impl Record {
     /// "11 batch number 0; 12 temperature out of range; 13 name length over 32; 14 a name byte or the fill is wrong"
-    pub fn refusal(&self) -> Option<u8> {
+    fn refusal(&self, range: &RangeInclusive<i16>) -> Option<u8> {
         if self.batch == 0 {
             return Some(11);
         }
-        if self.temperature < -400 || self.temperature > 1200 {
+        if !range.contains(&self.temperature) {
             return Some(12);
         }
         if self.length > 32 {
@@ -76,6 +83,7 @@ pub enum Call {
     Start,
     Receive(u8),
     Send(u8, Record),
+    SendTenths(u8, Record),
     Enter(u8),
     Move(u8),
     Withdraw(u8),
@@ -90,6 +98,16 @@ pub enum Answer {
     Hops(usize),
     Waiting(u64),
     Refused(u8),
+}
+
+impl Answer {
+    /// The refusal's number, or 0.
+    pub fn number(self) -> u8 {
+        match self {
+            Answer::Refused(number) => number,
+            _ => 0,
+        }
+    }
 }
 
 /// A refusal's number, by `?`.
@@ -145,6 +163,15 @@ impl Network {
 
     /// "A sound ring"
     pub fn sound(&self) -> bool {
+        self.sound_with(&HUNDREDTHS)
+    }
+
+    /// Sound as rings were while temperatures were tenths.
+    pub fn sound_in_tenths(&self) -> bool {
+        self.sound_with(&TENTHS)
+    }
+
+    fn sound_with(&self, temperatures: &RangeInclusive<i16>) -> bool {
         let (n, c) = (self.nodes.len(), self.channels.len());
         if n > 16 || c > 64 || self.channels.iter().any(|channel| channel.sender >= n || channel.receiver >= n) {
             return false;
@@ -158,7 +185,7 @@ impl Network {
                 _ => None,
             };
             !(channel.phase == Phase::Ready && channel.offer.is_some())
-                && [channel.offer, carried].into_iter().flatten().all(|record| record.refusal().is_none())
+                && [channel.offer, carried].into_iter().flatten().all(|record| record.refusal(temperatures).is_none())
         });
         nodes_good && channels_good && self.messages_stand_right() && self.state_fits_the_start()
     }
@@ -191,6 +218,17 @@ impl Network {
             && self.channels.iter().all(|channel| channel.phase == Phase::Resting && channel.offer.is_none())
     }
 
+    /// "turns a ring ... held in tenths into hundredths: each temperature ... ten times as many, all else the same"
+    pub fn to_hundredths(&mut self) {
+        let turn = |record: &mut Record| record.temperature *= 10;
+        for channel in &mut self.channels {
+            channel.offer.iter_mut().for_each(turn);
+            if let Phase::Answering(record) = &mut channel.phase {
+                turn(record);
+            }
+        }
+    }
+
     /// One call on a sound ring.
     pub fn call(&mut self, call: Call) -> Answer {
         let answer = match call {
@@ -199,6 +237,7 @@ impl Network {
             Call::Start => self.start(),
             Call::Receive(k) => self.receive(k.into()),
             Call::Send(k, record) => self.send(k.into(), record),
+            Call::SendTenths(k, record) => self.send_tenths(k.into(), record),
             Call::Enter(p) => self.enter(p.into()),
             Call::Move(p) => self.move_on(p.into()),
             Call::Withdraw(k) => self.withdraw(k.into()),
@@ -245,7 +284,7 @@ impl Network {
     fn send(&mut self, k: usize, record: Record) -> Refusable<Answer> {
         refuse_if(!self.started, 8)?;
         refuse_if(k >= self.channels.len(), 9)?;
-        record.refusal().map_or(Ok(()), Err)?;
+        record.refusal(&HUNDREDTHS).map_or(Ok(()), Err)?;
         refuse_if(record.has_blank_end(), 30)?;
         refuse_if(self.channels[k].offer.is_some(), 15)?;
         self.channels[k].offer = Some(record);
@@ -253,6 +292,16 @@ impl Network {
             self.answer(k);
         }
         Ok(Answer::Done)
+    }
+
+    /// "21 still means tenths, which are checked against -400 to 1200 at the place of 12 in send's order and only then become ten times as
+    /// many hundredths"
+    fn send_tenths(&mut self, k: usize, given: Record) -> Refusable<Answer> {
+        refuse_if(!self.started, 8)?;
+        refuse_if(k >= self.channels.len(), 9)?;
+        refuse_if(given.batch == 0, 11)?;
+        refuse_if(!TENTHS.contains(&given.temperature), 12)?;
+        self.send(k, Record { temperature: 10 * given.temperature, ..given })
     }
 
     /// The record leaves the offer, if there is one, and joins the sender node's line as the response.

@@ -1,4 +1,4 @@
-//! The command tape of document 01, with command 24 of 02's N1: read a command, write a command.
+//! The command tape of document 01, with command 24 of 02's N1 and 25 of its N5: read a command, write a command.
 
 use crate::form::{record_bytes, record_in};
 use crate::model::{Call, Record};
@@ -17,7 +17,8 @@ pub fn command_bytes(call: Call) -> Option<Vec<u8>> {
         Call::AddChannel(sender, receiver) => vec![0x11, sender, receiver],
         Call::Start => vec![0x12],
         Call::Receive(channel) => vec![0x20, channel],
-        Call::Send(channel, record) => [&[0x21, channel], record_bytes(&record).as_slice()].concat(),
+        Call::SendTenths(channel, record) => [&[0x21, channel], record_bytes(&record).as_slice()].concat(),
+        Call::Send(channel, record) => [&[0x25, channel], record_bytes(&record).as_slice()].concat(),
         Call::Enter(node) => vec![0x22, node],
         Call::Move(node) => vec![0x23, node],
         Call::Withdraw(channel) => vec![0x24, channel],
@@ -37,7 +38,7 @@ pub fn read(tape: &[u8], place: usize) -> Read {
         0x10 | 0x20 | 0x22 | 0x23 | 0x24 => 2,
         0x11 => 3,
         0x12 => 1,
-        0x21 => 42,
+        0x21 | 0x25 => 42,
         _ => return Read::Refused(22),
     };
     if bytes.len() < width {
@@ -48,10 +49,11 @@ pub fn read(tape: &[u8], place: usize) -> Read {
         0x11 => Call::AddChannel(bytes[1], bytes[2]),
         0x12 => Call::Start,
         0x20 => Call::Receive(bytes[1]),
-        0x21 => Call::Send(bytes[1], record_of(&bytes[2..42])),
+        0x21 => Call::SendTenths(bytes[1], record_of(&bytes[2..42])),
         0x22 => Call::Enter(bytes[1]),
         0x23 => Call::Move(bytes[1]),
-        _ => Call::Withdraw(bytes[1]),
+        0x24 => Call::Withdraw(bytes[1]),
+        _ => Call::Send(bytes[1], record_of(&bytes[2..42])),
     };
     Read::Command(call, place + width)
 }

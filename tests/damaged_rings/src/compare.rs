@@ -1,12 +1,13 @@
 //! The comparison: rings as the model reaches them and damaged ones, the
-//! verdict of a test on each against the one expected, and what was compared.
+//! verdict of a test on each against the one expected, what each is turned into, and
+//! what was compared.
 
-use crate::damage::{change_place, change_whole, ALWAYS_SOUND, KINDS};
+use crate::damage::{change_place, change_whole, ALWAYS_SOUND, KINDS, NO_TENTHS};
 use crate::expected;
 use crate::layout::{
-    channels, deliveries, lay_out, nodes, record_bytes, Bytes, Each, CAPACITY, CARRIED,
-    CHANNEL_COUNT, LENGTH, LINES, MARKS, NODE_COUNT, OFFERED, OFFERS, PARTS, PHASES, RECEIVERS,
-    SENDERS, SLOTS, SPARE, STARTED, USED, WAITING,
+    change_temperatures, channels, deliveries, lay_out, nodes, record_bytes, Bytes, Each, CAPACITY,
+    CARRIED, CHANNEL_COUNT, LENGTH, LINES, MARKS, NODE_COUNT, OFFERED, OFFERS, PARTS, PHASES,
+    RECEIVERS, SENDERS, SLOTS, SPARE, STARTED, USED, WAITING,
 };
 use crate::rings::Rings;
 use second_model::generate::Random;
@@ -20,6 +21,10 @@ const MOST_CHANGES: usize = 3;
 const WHOLE_EVERY: usize = 64;
 /// Sound and unsound rings are at least one of so many each.
 const LEAST_SHARE: u64 = 5;
+/// Rings that are turned are at least one of so many.
+const LEAST_TURNED_SHARE: u64 = 10;
+/// What a ring that is not sound in tenths is refused with.
+const UNSOUND: u8 = 25;
 /// So many changed places are printed, and no more.
 const PLACES_PRINTED: usize = 60;
 
@@ -27,6 +32,9 @@ const PLACES_PRINTED: usize = 60;
 pub struct Case {
     pub reached: Bytes,
     pub bytes: Bytes,
+    /// The ring that it was made of is held in tenths, and sound in them. Else it is
+    /// held in hundredths.
+    pub in_tenths: bool,
     /// The kinds of the changes made.
     pub kinds: Vec<usize>,
 }
@@ -40,7 +48,8 @@ pub struct Cases {
 
 impl Cases {
     pub fn new(seed: u64) -> Cases {
-        let case = Case { reached: [0; LENGTH], bytes: [0; LENGTH], kinds: Vec::new() };
+        let (reached, bytes) = ([0; LENGTH], [0; LENGTH]);
+        let case = Case { reached, bytes, in_tenths: false, kinds: Vec::new() };
         // Other numbers than those that the tapes are drawn with.
         Cases { rings: Rings::new(seed), random: Random::new(!seed), case }
     }
@@ -48,6 +57,10 @@ impl Cases {
     pub fn draw(&mut self) -> &Case {
         let Cases { rings, random, case } = self;
         lay_out(rings.reach(random), &mut case.reached);
+        case.in_tenths = random.percent(50);
+        if case.in_tenths {
+            change_temperatures(&mut case.reached, |hundredths| hundredths / 10);
+        }
         case.bytes = case.reached;
         case.kinds.clear();
         if random.below(WHOLE_EVERY) == 0 {
@@ -61,9 +74,15 @@ impl Cases {
     }
 }
 
-/// Judges `count` rings. A verdict is 1 for a sound ring and 0 for another; the
-/// first that is not as expected is answered as text.
-pub fn compare(count: u64, seed: u64, verdict: impl Fn(&Bytes) -> u8) -> Result<Sums, String> {
+/// Judges and turns `count` rings. A verdict is 1 for a sound ring and 0 for another;
+/// a turned ring is answered with 0, another with 25 and as it was. The first that is
+/// not as expected is answered as text.
+pub fn compare(
+    count: u64,
+    seed: u64,
+    verdict: impl Fn(&Bytes) -> u8,
+    turn: impl Fn(&mut Bytes) -> u8,
+) -> Result<Sums, String> {
     let mut cases = Cases::new(seed);
     let mut sums = Sums::new();
     for number in 1..=count {
@@ -74,26 +93,53 @@ pub fn compare(count: u64, seed: u64, verdict: impl Fn(&Bytes) -> u8) -> Result<
             let title = format!("seed {seed}, ring {number}: {answer}, expected {}", sound as u8);
             return Err(title + "\n" + &show(case));
         }
-        sums.add(case, sound);
+        let turned = expected::turned(&case.bytes);
+        if let Some(difference) = turned_wrong(&case.bytes, turned.as_ref(), &turn) {
+            return Err(format!("seed {seed}, ring {number}: {difference}\n{}", show(case)));
+        }
+        sums.add(case, sound, turned.is_some());
     }
     Ok(sums)
+}
+
+/// What is wrong where a ring is turned into another than expected, which is nothing
+/// for a ring that is to be refused.
+fn turned_wrong(
+    bytes: &Bytes,
+    expected: Option<&Bytes>,
+    turn: &impl Fn(&mut Bytes) -> u8,
+) -> Option<String> {
+    let mut after = *bytes;
+    let answer = turn(&mut after);
+    let right = if expected.is_some() { 0 } else { UNSOUND };
+    if answer != right {
+        return Some(format!("turned with {answer}, expected {right}"));
+    }
+    let expected = expected.unwrap_or(bytes);
+    let at = (0..LENGTH).find(|&at| after[at] != expected[at])?;
+    let (given, expected) = (after[at], expected[at]);
+    Some(format!("turned with {answer}, {} is {given}, expected {expected}", name_of(at)))
 }
 
 // ---- What was compared.
 
 /// How often a kind of change was made, how often as the only one, and how many
-/// of the latter left the ring sound.
-#[derive(Clone, Copy)]
+/// of the latter left the ring sound; how often as the only one of a ring held in
+/// tenths, and how many of these rings were turned.
+#[derive(Clone, Copy, Default)]
 pub struct KindSum {
     pub made: u64,
     pub alone: u64,
     pub sound: u64,
+    pub in_tenths: u64,
+    pub turned: u64,
 }
 
 #[derive(Clone)]
 pub struct Sums {
     pub rings: u64,
     pub sound: u64,
+    pub turned: u64,
     /// Rings with so many changes; a change of the whole ring is one.
     pub changes: [u64; MOST_CHANGES + 1],
     pub kinds: [KindSum; KINDS.len()],
@@ -101,13 +147,14 @@ pub struct Sums {
 
 impl Sums {
     pub fn new() -> Sums {
-        let kind = KindSum { made: 0, alone: 0, sound: 0 };
-        Sums { rings: 0, sound: 0, changes: [0; MOST_CHANGES + 1], kinds: [kind; KINDS.len()] }
+        let (changes, kinds) = ([0; MOST_CHANGES + 1], [KindSum::default(); KINDS.len()]);
+        Sums { rings: 0, sound: 0, turned: 0, changes, kinds }
     }
 
-    fn add(&mut self, case: &Case, sound: bool) {
+    fn add(&mut self, case: &Case, sound: bool, turned: bool) {
         self.rings += 1;
         self.sound += sound as u64;
+        self.turned += turned as u64;
         self.changes[case.kinds.len()] += 1;
         for &kind in &case.kinds {
             self.kinds[kind].made += 1;
@@ -115,6 +162,8 @@ impl Sums {
         if let [kind] = case.kinds[..] {
             self.kinds[kind].alone += 1;
             self.kinds[kind].sound += sound as u64;
+            self.kinds[kind].in_tenths += case.in_tenths as u64;
+            self.kinds[kind].turned += (case.in_tenths && turned) as u64;
         }
     }
 
@@ -127,9 +176,11 @@ impl Sums {
         for (changes, count) in self.changes.iter().enumerate() {
             println!("with {changes} changes: {count}");
         }
-        println!("    made    alone    sound  kind of change");
+        println!("turned from tenths into hundredths: {}", self.turned);
+        println!("    made    alone    sound tenths: alone  turned  kind of change");
         for (kind, sum) in KINDS.iter().zip(&self.kinds) {
-            println!("{:8} {:8} {:8}  {}", sum.made, sum.alone, sum.sound, kind.name);
+            let KindSum { made, alone, sound, in_tenths, turned } = sum;
+            println!("{made:8} {alone:8} {sound:8} {in_tenths:13} {turned:7}  {}", kind.name);
         }
     }
 
@@ -140,13 +191,22 @@ impl Sums {
         let never = kinds.filter(|(_, sum)| sum.made == 0);
         let mut faults: Vec<String> =
             never.map(|(kind, _)| format!("never made: {}", kind.name)).collect();
-        for (kind, KindSum { alone, sound, .. }) in KINDS.iter().zip(&self.kinds) {
-            if ALWAYS_SOUND.contains(&kind.name) && (*alone == 0 || sound < alone) {
+        let always = KINDS.iter().zip(&self.kinds).filter(|(k, _)| ALWAYS_SOUND.contains(&k.name));
+        for (kind, KindSum { alone, sound, in_tenths, turned, .. }) in always {
+            if *alone == 0 || sound < alone {
                 faults.push(format!("{sound} of {alone} are sound after {}", kind.name));
             }
+            let right = if kind.name == NO_TENTHS { 0 } else { *in_tenths };
+            if *in_tenths == 0 || *turned != right {
+                faults.push(format!("{turned} of {in_tenths} are turned after {}", kind.name));
+            }
         }
-        for (name, count) in [("sound", self.sound), ("unsound", self.rings - self.sound)] {
-            if count * LEAST_SHARE < self.rings || count == 0 {
+        for (name, count, share) in [
+            ("sound", self.sound, LEAST_SHARE),
+            ("unsound", self.rings - self.sound, LEAST_SHARE),
+            ("turned", self.turned, LEAST_TURNED_SHARE),
+        ] {
+            if count * share < self.rings || count == 0 {
                 faults.push(format!("{count} {name} rings of {} are too few", self.rings));
             }
         }

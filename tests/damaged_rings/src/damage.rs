@@ -1,12 +1,12 @@
 //! Changes to the bytes of a ring, by kind. Some leave it sound.
 
 use crate::layout::{
-    channels, nodes, put_record, record_bytes, Bytes, Part, CAPACITY, CARRIED, CHANNEL_COUNT,
-    DELIVERIES, LENGTH, LINES, MARKS, NODE_COUNT, OFFERED, OFFERS, PARTS, PHASES, RECEIVERS,
-    RECORD, SENDERS, SLOTS, SPARE, STARTED, USED, WAITING,
+    channels, nodes, put_record, put_temperature, record_bytes, temperature_in, Bytes, Part,
+    CAPACITY, CARRIED, CHANNEL_COUNT, DELIVERIES, LENGTH, LINES, MARKS, NODE_COUNT, OFFERED,
+    OFFERS, PARTS, PHASES, RECEIVERS, RECORD, SENDERS, SLOTS, SPARE, STARTED, USED, WAITING,
 };
-use second_model::generate::{good_record, Random};
-use second_model::ring::{BLANK, CHANNELS, SLOTS as ROW};
+use second_model::generate::{good_record, Random, EDGE_HUNDREDTHS, EDGE_TENTHS};
+use second_model::ring::{Unit, BLANK, CHANNELS, SLOTS as ROW};
 
 /// A kind of change. It answers whether it changed the ring: there may be
 /// nothing of the kind to change, or it may draw what is there already.
@@ -22,7 +22,7 @@ const fn kind(name: &'static str, change: fn(&mut Bytes, &mut Random) -> bool) -
 /// The first so many kinds change the whole ring, the others one place.
 pub const WHOLE: usize = 3;
 
-pub const KINDS: [Kind; 30] = [
+pub const KINDS: [Kind; 32] = [
     kind("every byte 0", every_byte_0),
     kind("every byte FF", every_byte_ff),
     kind("every byte drawn", every_byte_drawn),
@@ -53,10 +53,14 @@ pub const KINDS: [Kind; 30] = [
     kind("a record put in", record_put),
     kind("a record taken out", record_taken),
     kind("a blank at an end of a name", blank_end),
+    kind("a temperature out of range", temperature_out),
+    kind(NO_TENTHS, temperature_of_no_tenths),
 ];
 
 /// The kinds that, as the only change, leave every sound ring sound.
-pub const ALWAYS_SOUND: [&str; 2] = ["every byte 0", "a blank at an end of a name"];
+pub const ALWAYS_SOUND: [&str; 3] = ["every byte 0", "a blank at an end of a name", NO_TENTHS];
+/// The one of them that leaves no ring sound in tenths.
+pub const NO_TENTHS: &str = "a temperature that is good in hundredths alone";
 
 /// Changes one place and answers the kind of the change.
 pub fn change_place(bytes: &mut Bytes, random: &mut Random) -> usize {
@@ -448,7 +452,10 @@ fn change_field(record: &mut [u8; RECORD], random: &mut Random) {
     match random.below(6) {
         0 => record[..4].copy_from_slice(&random.pick(&[0u32, 1, 256, u32::MAX]).to_le_bytes()),
         1 => record[4] = random.byte(),
-        2 => record[5..7].copy_from_slice(&temperature(random).to_le_bytes()),
+        2 => {
+            let drawn = temperature(random);
+            put_temperature(record, drawn);
+        }
         3 => record[7] = near(random, record[7], &[0, 31, 32, 33]),
         4 => record[8 + random.below(length.max(1))] = name_byte(random),
         _ => record[8 + random.between(length.min(31), 31)] = name_byte(random),
@@ -457,7 +464,18 @@ fn change_field(record: &mut [u8; RECORD], random: &mut Random) {
 
 fn temperature(random: &mut Random) -> i16 {
     let drawn = random.draw() as i16;
-    random.pick(&[i16::MIN, -401, -400, -1, 0, 255, 256, 1200, 1201, i16::MAX, drawn])
+    let (tenths, hundredths) = (random.pick(&EDGE_TENTHS), random.pick(&EDGE_HUNDREDTHS));
+    random.pick(&[tenths, hundredths, drawn])
+}
+
+/// A temperature, at an edge or not, for which this holds.
+fn temperature_with(random: &mut Random, holds: impl Fn(&i16) -> bool) -> i16 {
+    loop {
+        let drawn = temperature(random);
+        if holds(&drawn) {
+            return drawn;
+        }
+    }
 }
 
 fn name_byte(random: &mut Random) -> u8 {
@@ -508,4 +526,28 @@ fn blank_end(bytes: &mut Bytes, random: &mut Random) -> bool {
         record[at] = BLANK;
     }
     *record != before
+}
+
+/// A record with another temperature.
+fn change_temperature(bytes: &mut Bytes, random: &mut Random, temperature: i16) -> bool {
+    let Some((part, channel)) = draw_record(bytes, random) else {
+        return false;
+    };
+    let before = temperature_in(record_bytes(bytes, part, channel));
+    put_temperature(&mut bytes[part + channel * RECORD..][..RECORD], temperature);
+    temperature != before
+}
+
+/// Out of range in hundredths, so in tenths too.
+fn temperature_out(bytes: &mut Bytes, random: &mut Random) -> bool {
+    let out = temperature_with(random, |value| !Unit::Hundredths.range().contains(value));
+    change_temperature(bytes, random, out)
+}
+
+/// 02, N5: hundredths are "from -4000 to 12000", tenths "-400 to 1200".
+fn temperature_of_no_tenths(bytes: &mut Bytes, random: &mut Random) -> bool {
+    let in_range = |value: &i16| Unit::Hundredths.range().contains(value);
+    let no_tenths = |value: &i16| !Unit::Tenths.range().contains(value);
+    let drawn = temperature_with(random, |value| in_range(value) && no_tenths(value));
+    change_temperature(bytes, random, drawn)
 }

@@ -1,11 +1,23 @@
-//! The verdict expected on the bytes of a ring.
+//! The verdict expected on the bytes of a ring, and what it is turned into.
 
-use crate::layout::{read_back, record_bytes, Bytes, OFFERED, OFFERS, RECORD, SPARE};
+use crate::layout::{lay_out, read_back, record_bytes, Bytes, OFFERED, OFFERS, RECORD, SPARE};
 use second_model::ring::CHANNELS;
 
 /// The model's verdict on the ring that the bytes hold, where they hold one.
 pub fn sound(bytes: &Bytes) -> bool {
     fits_the_model(bytes) && read_back(bytes).sound()
+}
+
+/// The ring turned from tenths into hundredths by the model; nothing where it is not
+/// sound in tenths.
+pub fn turned(bytes: &Bytes) -> Option<Bytes> {
+    let mut ring = read_back(bytes);
+    if !fits_the_model(bytes) || ring.to_hundredths().is_err() {
+        return None;
+    }
+    let mut turned = *bytes;
+    lay_out(&ring, &mut turned);
+    Some(turned)
 }
 
 /// What the bytes may say and a ring of the model cannot. Such a ring is unsound

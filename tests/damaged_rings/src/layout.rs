@@ -122,16 +122,24 @@ pub fn record_bytes(bytes: &Bytes, part: usize, channel: usize) -> &[u8; RECORD]
 pub fn put_record(to: &mut [u8], record: &Record) {
     to[0..4].copy_from_slice(&record.number.0.to_le_bytes());
     to[4] = record.vessel;
-    to[5..7].copy_from_slice(&record.temperature.to_le_bytes());
+    put_temperature(to, record.temperature);
     to[7] = record.length;
     to[8..RECORD].copy_from_slice(&record.name);
+}
+
+pub fn put_temperature(to: &mut [u8], temperature: i16) {
+    to[5..7].copy_from_slice(&temperature.to_le_bytes());
+}
+
+pub fn temperature_in(from: &[u8; RECORD]) -> i16 {
+    i16::from_le_bytes([from[5], from[6]])
 }
 
 pub fn read_record(from: &[u8; RECORD]) -> Record {
     Record {
         number: BatchNumber(u32::from_le_bytes([from[0], from[1], from[2], from[3]])),
         vessel: from[4],
-        temperature: i16::from_le_bytes([from[5], from[6]]),
+        temperature: temperature_in(from),
         length: from[7],
         name: from[8..].try_into().expect("32 bytes"),
     }
@@ -154,6 +162,14 @@ pub fn lay_out(ring: &Ring, bytes: &mut Bytes) {
     }
     bytes[SLOTS..LINES].copy_from_slice(&ring.slots);
     bytes[LINES..OFFERS].copy_from_slice(&ring.lines);
+}
+
+/// Gives every record of a ring another temperature; where there is none all is 0.
+pub fn change_temperatures(bytes: &mut Bytes, change: impl Fn(i16) -> i16) {
+    for record in bytes[OFFERS..].chunks_exact_mut(RECORD) {
+        let before = temperature_in((&*record).try_into().expect("40 bytes"));
+        put_temperature(record, change(before));
+    }
 }
 
 fn lay_out_node(node: &Node, at: usize, bytes: &mut Bytes) {

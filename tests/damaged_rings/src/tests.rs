@@ -1,14 +1,15 @@
 //! The conversion there and back, the rings, the changes, and that a wrong
-//! verdict is found out.
+//! verdict and a ring turned wrong are found out.
 
 use crate::compare::{compare, Cases, Sums};
-use crate::damage::{ALWAYS_SOUND, KINDS};
+use crate::damage::{ALWAYS_SOUND, KINDS, NO_TENTHS};
 use crate::expected;
 use crate::layout::*;
 use crate::rings::Rings;
-use second_model::generate::{record_named, Random};
+use second_model::generate::{fields_named, Random};
 use second_model::ring::{
-    ChannelNumber, NodeNumber, Record, Ring, ANSWERING, ASKING, CHANNELS, NODES, READY, RESTING,
+    ChannelNumber, NodeNumber, Record, Ring, Unit, ANSWERING, ASKING, CHANNELS, NODES, READY,
+    RESTING,
 };
 use std::sync::OnceLock;
 
@@ -30,7 +31,7 @@ fn asking() -> Ring {
     ring.add_channel(NodeNumber(1), NodeNumber(0)).unwrap();
     ring.start().unwrap();
     ring.receive(ChannelNumber(0)).unwrap();
-    ring.send(ChannelNumber(0), &record_named(b"A1")).unwrap();
+    ring.send(ChannelNumber(0), &fields_named(b"A1")).unwrap();
     ring
 }
 
@@ -57,10 +58,11 @@ fn the_parts_lie_one_behind_the_other() {
     assert_eq!(SLOTS, 328, "the head");
 }
 
-/// 01's record: the bytes of the send on its own tape.
+/// 01's record: the bytes of the send on its own tape, but for the temperature. Its 612
+/// tenths are 6120 hundredths here.
 fn record_of_01() -> [u8; RECORD] {
     let mut bytes = [0; RECORD];
-    bytes[..10].copy_from_slice(&[0x07, 0, 0, 0, 0x03, 0x64, 0x02, 0x02, 0x41, 0x31]);
+    bytes[..10].copy_from_slice(&[0x07, 0, 0, 0, 0x03, 0xE8, 0x17, 0x02, 0x41, 0x31]);
     bytes
 }
 
@@ -165,6 +167,36 @@ fn a_ring_that_holds_a_blank_end() {
         assert!(!sound_with(&ring, &[(length, 1), (last, b' ')]), "a blank behind the name");
         assert!(!sound_with(&ring, &[(first, b' '), (last, 0x7F)]), "a byte that no name has");
     }
+}
+
+/// The temperature of a record, offered or carried, at the edges of both units.
+#[test]
+fn a_ring_sound_in_both_units_or_in_one() {
+    for (ring, part) in [(asking(), OFFERS), (answering(), CARRIED)] {
+        for (value, sound, turned) in [
+            (612, true, Some(6120)),
+            (1200, true, Some(12000)),
+            (-400, true, Some(-4000)),
+            (1201, true, None),
+            (-401, true, None),
+            (12000, true, None),
+            (-4000, true, None),
+            (6554, true, None),
+            (12001, false, None),
+            (-4001, false, None),
+            (i16::MIN, false, None),
+        ] {
+            let mut bytes = laid_out(&ring);
+            put_temperature(&mut bytes[part..][..RECORD], value);
+            assert_eq!(expected::sound(&bytes), sound, "{value}");
+            let mut by_hand = bytes;
+            let ten_times = turned.map(|value| put_temperature(&mut by_hand[part..], value));
+            assert_eq!(expected::turned(&bytes), ten_times.map(|()| by_hand), "{value}");
+        }
+    }
+    let mut flagged = laid_out(&Ring::fresh());
+    flagged[OFFERED] = 1;
+    assert_eq!(expected::turned(&flagged), None);
 }
 
 /// A withdrawal made by hand is the model's; one made by half is no sound ring.
@@ -280,7 +312,7 @@ fn every_change_is_one() {
 }
 
 /// The kinds that leave no ring sound when they are the only change.
-const NEVER_SOUND: [&str; 12] = [
+const NEVER_SOUND: [&str; 13] = [
     "every byte FF",
     "every byte drawn",
     "a byte beyond the nodes or channels",
@@ -293,6 +325,7 @@ const NEVER_SOUND: [&str; 12] = [
     "a message doubled",
     "a message lost",
     "a message put in",
+    "a temperature out of range",
 ];
 
 #[test]
@@ -304,6 +337,9 @@ fn kinds_that_leave_no_ring_sound() {
         assert_eq!(sum.sound == 0, never, "{}: {} of {}", kind.name, sum.sound, sum.alone);
         let always = ALWAYS_SOUND.contains(&kind.name);
         assert_eq!(sum.sound == sum.alone, always, "{}", kind.name);
+        assert!(sum.in_tenths > 20 && sum.in_tenths < sum.alone, "{}", kind.name);
+        let never = never || kind.name == NO_TENTHS;
+        assert_eq!(sum.turned == 0, never, "{}: {} of {}", kind.name, sum.turned, sum.in_tenths);
     }
 }
 
@@ -313,11 +349,21 @@ fn model(bytes: &Bytes) -> u8 {
     expected::sound(bytes) as u8
 }
 
+fn model_turn(bytes: &mut Bytes) -> u8 {
+    match expected::turned(bytes) {
+        Some(turned) => {
+            *bytes = turned;
+            0
+        }
+        None => 25,
+    }
+}
+
 /// The comparison with the verdict expected in place of the proved one, made
 /// once for all tests.
 fn stand_in() -> Sums {
     static SUMS: OnceLock<Sums> = OnceLock::new();
-    SUMS.get_or_init(|| compare(RINGS, SEED, model).expect("no difference")).clone()
+    SUMS.get_or_init(|| compare(RINGS, SEED, model, model_turn).expect("no difference")).clone()
 }
 
 #[test]
@@ -344,7 +390,7 @@ fn the_same_seed_draws_the_same_rings() {
 #[test]
 fn too_little_compared_is_a_fault() {
     assert!(!Sums::new().faults().is_empty(), "no ring");
-    let few = compare(10, SEED, model).expect("no difference");
+    let few = compare(10, SEED, model, model_turn).expect("no difference");
     assert!(!few.faults().is_empty(), "kinds never made");
     let mut sums = stand_in();
     sums.kinds[7].made = 0;
@@ -355,6 +401,17 @@ fn too_little_compared_is_a_fault() {
     assert_eq!(sums.faults().len(), 1, "a ring that holds a blank end is unsound");
     (sums.kinds[blank_end.unwrap()].alone, sums.kinds[blank_end.unwrap()].sound) = (0, 0);
     assert_eq!(sums.faults(), ["0 of 0 are sound after a blank at an end of a name"]);
+    let mut sums = stand_in();
+    sums.kinds[blank_end.unwrap()].turned -= 1;
+    assert_eq!(sums.faults().len(), 1, "a ring that holds a blank end is not turned");
+    let no_tenths = KINDS.iter().position(|kind| kind.name == NO_TENTHS).unwrap();
+    let mut sums = stand_in();
+    sums.kinds[no_tenths].turned = 1;
+    assert_eq!(sums.faults().len(), 1, "a ring that holds no tenths is turned");
+    (sums.kinds[no_tenths].in_tenths, sums.kinds[no_tenths].turned) = (0, 0);
+    assert_eq!(sums.faults(), [format!("0 of 0 are turned after {NO_TENTHS}")]);
+    let sums = Sums { turned: RINGS / 10 - 1, ..stand_in() };
+    assert_eq!(sums.faults().len(), 1, "too few are turned");
     let mut sums = Sums { sound: RINGS / 5 - 1, ..stand_in() };
     assert_eq!(sums.faults().len(), 1, "too few are sound");
     sums.sound = RINGS - RINGS / 5 + 1;
@@ -364,10 +421,17 @@ fn too_little_compared_is_a_fault() {
 }
 
 fn assert_found_out(slip: &str, verdict: impl Fn(&Bytes) -> u8) {
-    let Err(text) = compare(RINGS, SEED, verdict) else {
+    let Err(text) = compare(RINGS, SEED, verdict, model_turn) else {
         panic!("not found out: {slip}");
     };
     assert!(text.starts_with("seed 1978, ring "), "{text}");
+}
+
+fn assert_turn_found_out(slip: &str, turn: impl Fn(&mut Bytes) -> u8) {
+    let Err(text) = compare(RINGS, SEED, model, turn) else {
+        panic!("not found out: {slip}");
+    };
+    assert!(text.starts_with("seed 1978, ring ") && text.contains(": turned with "), "{text}");
 }
 
 #[test]
@@ -394,6 +458,60 @@ fn holds_blank_end(bytes: &Bytes, part: usize) -> bool {
         name.first() == Some(&b' ') || name.last() == Some(&b' ')
     };
     (0..CHANNELS).any(blank_ended)
+}
+
+/// Turns a ring like the model, then changes what comes out.
+fn then(change: impl Fn(&Bytes, &mut Bytes)) -> impl Fn(&mut Bytes) -> u8 {
+    move |bytes| {
+        let before = *bytes;
+        let answer = model_turn(bytes);
+        change(&before, bytes);
+        answer
+    }
+}
+
+/// Turns a ring that is sound with its temperatures changed like this, without a look
+/// at them before.
+fn untested(change: impl Fn(i16) -> i16) -> impl Fn(&mut Bytes) -> u8 {
+    move |bytes| {
+        let mut turned = *bytes;
+        change_temperatures(&mut turned, &change);
+        let sound = expected::sound(&turned);
+        *bytes = if sound { turned } else { *bytes };
+        25 * !sound as u8
+    }
+}
+
+#[test]
+fn rings_turned_wrong_are_found_out() {
+    assert_turn_found_out("none is turned", |_| 25);
+    assert_turn_found_out("all are left as they are", |_| 0);
+    assert_turn_found_out("refused with 1", |bytes| model_turn(bytes).min(1));
+    let keep = |first: usize, end: usize| {
+        then(move |before, after| after[first..end].copy_from_slice(&before[first..end]))
+    };
+    assert_turn_found_out("the offers forgotten", keep(OFFERS, CARRIED));
+    assert_turn_found_out("the records carried forgotten", keep(CARRIED, LENGTH));
+    assert_turn_found_out("channel 63 forgotten", keep(LENGTH - RECORD, LENGTH));
+    assert_turn_found_out("the deliveries too", then(|_, after| after[DELIVERIES] ^= 1));
+    assert_turn_found_out("cut to 16 bits", untested(|value| value.wrapping_mul(10)));
+    let clamped = |value: i16| value.clamp(-400, 1200) * 10;
+    assert_turn_found_out("clamped to the range", untested(clamped));
+    let twice = |value: i16| Unit::Tenths.hundredths(value).unwrap_or(value);
+    assert_turn_found_out("what is no tenths left as it is", untested(twice));
+    assert_turn_found_out("the flags of the offers", |bytes| {
+        let mut ring = read_back(bytes);
+        let turned = ring.to_hundredths().is_ok();
+        lay_out(&ring, bytes);
+        25 * !turned as u8
+    });
+    assert_turn_found_out("changed and refused", |bytes| {
+        let answer = model_turn(bytes);
+        if answer != 0 {
+            change_temperatures(bytes, |value| value.wrapping_mul(10));
+        }
+        answer
+    });
 }
 
 /// Tests that do not look at some byte: each judges the ring as if there were 0.

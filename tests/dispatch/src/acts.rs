@@ -6,9 +6,10 @@ use crate::compare;
 use crate::rings;
 use crate::singly::{Rounds, Try};
 use crate::tally::{Seen, Tally};
-use calls::draw::{self, good_record, Random};
+use calls::draw::{self, good_record, good_record_in_tenths, Random};
 use calls::form::{from_c, record_in, to_c};
-use calls::model::Call;
+use calls::model::{self, Call};
+use second_model::ring::Unit;
 use vessel_ring::{Record, Ring, CHANNELS};
 
 /// A record that is matched: it waits for its delivery.
@@ -25,10 +26,17 @@ struct Match {
     undone: usize,
 }
 
+/// A record that was offered, and the unit that it was sent in; none of those that the run began with.
+#[derive(Clone, Copy, Debug)]
+struct Offer {
+    record: Record,
+    sent: Option<Unit>,
+}
+
 /// What is known of a channel.
 #[derive(Clone, Default)]
 struct Line {
-    offered: Vec<Record>,
+    offered: Vec<Offer>,
     delivered: usize,
     matched: Option<Match>,
     /// The step that was its last receive, and the dispatcher calls with rounds up to then.
@@ -74,7 +82,7 @@ impl Run {
         for k in 0..CHANNELS {
             let carried = (ring.phases[k] == 3).then(|| record_at(&ring.carried, k));
             let offered = (ring.offered[k] == 1).then(|| record_at(&ring.offers, k));
-            run.lines[k].offered = carried.into_iter().chain(offered).collect();
+            run.lines[k].offered = carried.into_iter().chain(offered).map(|record| Offer { record, sent: None }).collect();
             run.begin_match(k);
         }
         run
@@ -106,10 +114,10 @@ impl Run {
                 self.count();
                 self.begin_match(k.into());
             }
-            Call::Send(k, record) => {
-                self.count();
-                self.lines[usize::from(k)].offered.push(to_c(record));
-                self.begin_match(k.into());
+            Call::Send(k, record) => self.sent(k.into(), Unit::Hundredths, record),
+            Call::SendTenths(k, record) => {
+                let temperature = 10 * record.temperature;
+                self.sent(k.into(), Unit::Tenths, model::Record { temperature, ..record });
             }
             Call::Enter(_) | Call::Move(_) => self.count(),
             Call::Withdraw(k) => self.withdrawn(k.into(), tally),
@@ -120,6 +128,13 @@ impl Run {
             tally.see(ended.dispatched > 0, "acts: a record delivered by a single move, after a call that made rounds");
         }
         self.in_time()
+    }
+
+    /// An accepted send: the record that it offers.
+    fn sent(&mut self, k: usize, unit: Unit, record: model::Record) {
+        self.count();
+        self.lines[k].offered.push(Offer { record: to_c(record), sent: Some(unit) });
+        self.begin_match(k);
     }
 
     /// The receive is undone, and left out of the count of the matches that it was counted for; a match on this channel is withdrawn.
@@ -139,10 +154,10 @@ impl Run {
     fn delivered(&mut self, channel: u8, record: Record, tally: &mut Tally) -> Result<Match, String> {
         let most = bound(&self.ring);
         let line = self.lines.get_mut(usize::from(channel)).ok_or("delivered on a channel of 64 or more")?;
-        if line.offered.get(line.delivered) != Some(&record) {
+        if line.offered.get(line.delivered).map(|offer| offer.record) != Some(record) {
             return Err(format!("channel {channel}: {record:?} is not record {} of those offered, {:?}", line.delivered, line.offered));
         }
-        let twice = line.delivered > 0 && line.offered[line.delivered - 1] == record;
+        let twice = line.delivered > 0 && line.offered[line.delivered - 1].record == record;
         line.delivered += 1;
         let ended = line.matched.take().filter(|one| one.record == record);
         let ended = ended.ok_or_else(|| format!("channel {channel}: {record:?} was not matched"))?;
@@ -197,6 +212,9 @@ impl Run {
     fn told(&mut self, channel: u8, record: Record, tally: &mut Tally) -> Result<(), String> {
         let ended = self.delivered(channel, record, tally)?;
         let line = &mut self.lines[usize::from(channel)];
+        let sent = line.offered[line.delivered - 1].sent;
+        tally.see(sent == Some(Unit::Tenths), "acts: a record sent in tenths, delivered by a call");
+        tally.see(sent == Some(Unit::Hundredths), "acts: a record sent in hundredths, delivered by a call");
         tally.see(ended.since == 0, "acts: a record delivered by a call, held by a ring that was made by hand");
         tally.see(ended.dispatched > 0, "acts: a record matched before one call and delivered by another");
         tally.see(line.left_ready, "acts: a channel left ready by one call, its record delivered by another");
@@ -230,16 +248,20 @@ impl Run {
             return self.dispatch(random.pick(&[0, 1, 1, 1, 2, 2, 3, 5, enough, u16::MAX]), tally);
         }
         let call = draw::running_call(random, self.ring.node_count.into(), self.ring.channel_count.into());
-        let Call::Send(k, record) = call else {
-            return self.single(call, tally);
+        let call = match call {
+            Call::Send(k, record) => Call::Send(k, self.next_record(random, k).unwrap_or(record)),
+            Call::SendTenths(k, _) if random.percent(80) => Call::SendTenths(k, good_record_in_tenths(random)),
+            call => call,
         };
-        let last = self.lines.get(usize::from(k)).and_then(|line| line.offered.last());
-        let record = match last {
-            Some(&last) if random.percent(20) => from_c(last),
-            _ if random.percent(80) => good_record(random),
-            _ => record,
-        };
-        self.single(Call::Send(k, record), tally)
+        self.single(call, tally)
+    }
+
+    /// Often a good record, now and then the last one once more.
+    fn next_record(&self, random: &mut Random, k: u8) -> Option<model::Record> {
+        match self.lines.get(usize::from(k)).and_then(|line| line.offered.last()) {
+            Some(last) if random.percent(20) => Some(from_c(last.record)),
+            _ => random.percent(80).then(|| good_record(random)),
+        }
     }
 }
 

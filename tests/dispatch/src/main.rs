@@ -100,11 +100,14 @@ fn aimed(random: &mut Random, tally: &mut Tally) -> Result<(), String> {
 fn drawn(random: &mut Random, tally: &mut Tally) -> Result<(), String> {
     let (source, ring) = match random.below(100) {
         0..=2 => ("a packed ring", rings::packed(random)),
-        3..=59 => ("a ring of a drawn run", rings::drawn(random)),
+        3..=49 => ("a ring of a drawn run", rings::drawn(random)),
+        50..=59 => ("a ring turned from tenths", rings::turned(random)),
         _ => ("a ring made by hand", rings::by_hand(random)),
     };
     any(&ring, random, tally)?;
     tally.see(on_ring(&ring) > 0, source);
+    let delivers = source == "a ring turned from tenths" && ring.clone().dispatch(u16::MAX).count > 0;
+    tally.see(delivers, "deliveries: of a ring turned from tenths");
     for _ in 0..3 {
         let changed = rings::damaged(&ring, random, tally);
         any(&changed, random, tally)?;

@@ -1,7 +1,7 @@
 //! The rings on which the dispatcher is called.
 
 use crate::tally::Tally;
-use calls::draw::{self, good_record, Random};
+use calls::draw::{self, good_record, good_record_in_tenths, Random};
 use calls::form::{from_c, lay, to_c};
 use calls::model::Call;
 use damaged_rings::damage::{change_place, change_whole};
@@ -19,7 +19,7 @@ pub fn started(slots: &[u8], channels: &[(u8, u8)]) -> Ring {
 
 /// A record that tells its channel.
 fn record_of(channel: u8) -> Record {
-    let mut record = Record { batch: 100 + u32::from(channel), vessel: channel, name_length: 2, temperature: 612, ..Record::default() };
+    let mut record = Record { batch: 100 + u32::from(channel), vessel: channel, name_length: 2, temperature: 6125, ..Record::default() };
     record.name[..2].copy_from_slice(b"A1");
     record
 }
@@ -113,8 +113,11 @@ pub fn drawn(random: &mut Random) -> Ring {
     }
     let [receives, sends, entries] = random.pick(&[[0, 0, 0], [40, 40, 30], [100, 0, 50], [90, 90, 0], [100, 100, 100]]);
     for channel in 0..ring.channel_count {
-        if random.percent(sends) {
+        if random.percent(sends / 2) {
             ring.send(channel, to_c(good_record(random)));
+        }
+        if random.percent(sends) {
+            ring.send_tenths(channel, to_c(good_record_in_tenths(random)));
         }
         if random.percent(receives) {
             ring.receive(channel);
@@ -138,6 +141,7 @@ pub fn make(ring: &mut Ring, call: Call) -> (u8, Option<(u8, Record)>) {
         Call::Start => ring.start(),
         Call::Receive(channel) => ring.receive(channel),
         Call::Send(channel, record) => ring.send(channel, to_c(record)),
+        Call::SendTenths(channel, record) => ring.send_tenths(channel, to_c(record)),
         Call::Enter(node) => ring.enter(node),
         Call::Withdraw(channel) => ring.withdraw(channel),
         Call::Move(node) => {
@@ -152,6 +156,15 @@ pub fn make(ring: &mut Ring, call: Call) -> (u8, Option<(u8, Record)>) {
 /// A sound started ring that no run need reach.
 pub fn by_hand(random: &mut Random) -> Ring {
     lay(&draw::by_hand(random))
+}
+
+/// Such a ring held in tenths, and turned into hundredths.
+pub fn turned(random: &mut Random) -> Ring {
+    let mut network = draw::by_hand(random);
+    draw::put_in_tenths(random, &mut network);
+    let mut ring = lay(&network);
+    assert_eq!(ring.to_hundredths(), 0, "made sound in tenths: {ring:?}");
+    ring
 }
 
 /// The ring with up to three places changed, or the whole of it. It may still be sound.

@@ -2,6 +2,7 @@
 
 use crate::compare::Outcome;
 use crate::singly::{enough, on_ring, Kind, Rounds, Try};
+use calls::model::TENTHS;
 use damaged_rings::damage::KINDS;
 use std::collections::BTreeMap;
 use vessel_ring::{Record, Ring};
@@ -10,11 +11,12 @@ use vessel_ring::{Record, Ring};
 pub const GIVENS: [&str; 8] = ["0", "1", "made - 1", "made", "made + 1", "enough", "65535", "drawn"];
 
 /// What calls have to show.
-const SIGHTS: [&str; 54] = [
+const SIGHTS: [&str; 60] = [
     "a ring of a tiny plan",
     "a ring of a drawn run",
     "a ring made by hand",
     "a packed ring",
+    "a ring turned from tenths",
     "a damaged ring that is still sound",
     "refused 8: a fresh ring",
     "refused 8: nodes and channels, not started",
@@ -56,8 +58,13 @@ const SIGHTS: [&str; 54] = [
     "deliveries: the ring's count stops",
     "deliveries: a name with a blank at an end, carried before the call",
     "deliveries: a name with a blank at an end, offered before the call",
+    "deliveries: a temperature that is good in hundredths alone",
+    "deliveries: hundredths that are no whole tenths",
+    "deliveries: of a ring turned from tenths",
     "acts: a call refused with 8, before the start",
     "acts: a record delivered by a call, held by a ring that was made by hand",
+    "acts: a record sent in tenths, delivered by a call",
+    "acts: a record sent in hundredths, delivered by a call",
     "acts: a record matched before one call and delivered by another",
     "acts: a record delivered by a single move, after a call that made rounds",
     "acts: a channel left ready by one call, its record delivered by another",
@@ -203,6 +210,10 @@ impl Tally {
         self.see(channels.iter().any(|&k| after.offered[k] == 1), "deliveries: the channel's next record stays offered");
         let stopped = u64::from(ring.deliveries) + channels.len() as u64 > u64::from(u32::MAX);
         self.see(stopped, "deliveries: the ring's count stops");
+        let temperatures = || answer.deliveries().map(|(_, record)| record.temperature);
+        let no_tenths = temperatures().any(|temperature| !TENTHS.contains(&temperature));
+        self.see(no_tenths, "deliveries: a temperature that is good in hundredths alone");
+        self.see(temperatures().any(|temperature| temperature % 10 != 0), "deliveries: hundredths that are no whole tenths");
         for (channel, _) in answer.deliveries().filter(|(_, record)| has_blank_end(record)) {
             let carried = ring.phases[usize::from(channel)] == 3;
             self.see(carried, "deliveries: a name with a blank at an end, carried before the call");

@@ -9,7 +9,7 @@ use std::ops::Range;
 use vessel_ring::{close, figures, note, Figures, Row, HISTORY_ROWS};
 
 /// A row that stands before the lent table and behind it. It is no sound row: to read it shows as well as to write it.
-const STRANGE: Row = Row { batch: 0xA5A5_A5A5, count: 0xA5A5_A5A5, readings: [-0x5A5B; vessel_ring::READINGS] };
+pub const STRANGE: Row = Row { batch: 0xA5A5_A5A5, count: 0xA5A5_A5A5, readings: [-0x5A5B; vessel_ring::READINGS] };
 
 /// What a call answers: a refusal's number or 0, or figures.
 #[derive(Clone, Copy, PartialEq, Eq, Debug)]
@@ -162,18 +162,18 @@ fn to_c(record: Record) -> vessel_ring::Record {
     vessel_ring::Record { batch: number.0, vessel, name_length: length, temperature, name }
 }
 
-fn to_model(row: &Row) -> model::Row {
+pub fn to_model(row: &Row) -> model::Row {
     let Row { batch, count, readings } = *row;
     model::Row { batch: BatchNumber(batch), count, readings }
 }
 
-fn from_model(row: model::Row) -> Row {
+pub fn from_model(row: model::Row) -> Row {
     let model::Row { batch, count, readings } = row;
     Row { batch: batch.0, count, readings }
 }
 
 /// The rows that are not all zero.
-fn shown(table: &[Row]) -> String {
+pub fn shown(table: &[Row]) -> String {
     let rows = table.iter().enumerate().filter(|(_, row)| **row != Row::default());
     rows.map(|(at, row)| format!("  row {at}: batch {}, count {}, {:?}\n", row.batch, row.count, row.readings)).collect()
 }

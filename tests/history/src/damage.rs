@@ -42,8 +42,8 @@ fn another(table: &[Row], at: usize, random: &mut Random) -> Row {
 
 /// A reading in range that is not zero.
 fn reading(random: &mut Random) -> i16 {
-    let inside = random.between(1, 1200) as i16;
-    random.pick(&[inside, -400, -1, 1, 1200])
+    let inside = random.between(1, 12_000) as i16;
+    random.pick(&[inside, -4000, -400, -1, 1, 1200, 12000])
 }
 
 pub const KINDS: [Kind; 23] = [
@@ -68,16 +68,16 @@ pub const KINDS: [Kind; 23] = [
         suits: with_room,
         change: |table, at, random| table[at].readings[READINGS - 1] = reading(random),
     },
-    Kind { name: "in use, first reading 1201", suits: in_use, change: |table, at, _| table[at].readings[0] = 1201 },
-    Kind { name: "in use, first reading -401", suits: in_use, change: |table, at, _| table[at].readings[0] = -401 },
-    Kind { name: "in use, last reading 1201", suits: in_use, change: |table, at, _| table[at].readings[last(&table[at])] = 1201 },
-    Kind { name: "in use, last reading -401", suits: in_use, change: |table, at, _| table[at].readings[last(&table[at])] = -401 },
+    Kind { name: "in use, first reading 12001", suits: in_use, change: |table, at, _| table[at].readings[0] = 12001 },
+    Kind { name: "in use, first reading -4001", suits: in_use, change: |table, at, _| table[at].readings[0] = -4001 },
+    Kind { name: "in use, last reading 12001", suits: in_use, change: |table, at, _| table[at].readings[last(&table[at])] = 12001 },
+    Kind { name: "in use, last reading -4001", suits: in_use, change: |table, at, _| table[at].readings[last(&table[at])] = -4001 },
     Kind {
         name: "in use, a reading far out",
         suits: in_use,
         change: |table, at, random| {
             let place = random.between(0, last(&table[at]));
-            table[at].readings[place] = random.pick(&[i16::MIN, -1000, 5000, i16::MAX]);
+            table[at].readings[place] = random.pick(&[i16::MIN, -10_000, 20_000, i16::MAX]);
         },
     },
     Kind { name: "in use, the batch number lost", suits: in_use, change: |table, at, _| table[at].batch = 0 },

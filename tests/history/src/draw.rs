@@ -14,11 +14,11 @@ pub enum Call {
 
 /// Temperatures in range: any of them, at the edges too, or few, so that equal ones meet.
 fn temperature(random: &mut Random, few: bool) -> i16 {
-    let inside = random.between(0, 1600) as i16 - 400;
+    let inside = random.between(0, 16_000) as i16 - 4000;
     if few {
-        random.pick(&[-400, 0, 1, 1200])
+        random.pick(&[-4000, 0, 1, 12000])
     } else {
-        random.pick(&[inside, inside, inside, inside, inside, inside, -400, 1200])
+        random.pick(&[inside, inside, inside, inside, inside, inside, -4000, 12000])
     }
 }
 

@@ -1,6 +1,7 @@
 //! history COUNT SEED: makes COUNT calls of the library on histories, each also on the second model, and compares the answer and every byte
 //! of the table after it; figures are also worked out afresh from plain lists of all that was noted.
 //! The tables come from long scripts from an empty one, from hand-made ones, and from both damaged or lent with another number of rows.
+//! The same tables held in tenths are turned into hundredths (src/turns.rs).
 //! Fails on a difference, and when what has to be seen (src/tally.rs) never was.
 
 mod compare;
@@ -8,6 +9,7 @@ mod damage;
 mod draw;
 mod lists;
 mod tally;
+mod turns;
 
 use compare::Pair;
 use damage::KINDS;
@@ -53,6 +55,7 @@ fn scripted(random: &mut Random, tally: &mut Tally) -> Result<(), String> {
     let script = Script::draw(random);
     for _ in 0..20 {
         damaged(&script.table(random), &script, random, tally)?;
+        turns::turned_table(&script.table(random), &script, random, tally)?;
     }
     let begin = if random.percent(70) { vec![Row::default(); HISTORY_ROWS] } else { script.table(random) };
     let mut pair = Pair::new(&begin, HISTORY_ROWS);
@@ -66,6 +69,7 @@ fn scripted(random: &mut Random, tally: &mut Tally) -> Result<(), String> {
         }
         if random.percent(1) {
             cut(pair.table(), &script, random, tally)?;
+            turns::turned_table(pair.table(), &script, random, tally)?;
         }
     }
     script.batches.iter().try_for_each(|&batch| pair.call(Call::Figures(batch), tally))
@@ -114,7 +118,7 @@ fn every_cell(random: &mut Random, tally: &mut Tally) -> Result<(), String> {
     let empty = vec![Row::default(); HISTORY_ROWS];
     for at in 0..HISTORY_ROWS {
         for cell in 0..READINGS {
-            for (sound, reading) in [(&empty, 1), (&full_table(READINGS), 1201), (&full_table(READINGS), -401)] {
+            for (sound, reading) in [(&empty, 1), (&full_table(READINGS), 12001), (&full_table(READINGS), -4001)] {
                 let mut table = sound.clone();
                 table[at].readings[cell] = reading;
                 one_refused(&table, at + cell, random, tally)?;
@@ -149,6 +153,8 @@ fn compare(count: u64, seed: u64, tally: &mut Tally) -> Result<(), String> {
     every_byte(random, tally)?;
     every_pair(random, tally)?;
     every_cell(random, tally)?;
+    turns::every_pair(tally)?;
+    turns::every_cell(tally)?;
     let mut run = 0;
     while tally.calls < count {
         let mut random = Random::new(seed.wrapping_mul(0x9E37_79B9_7F4A_7C15) ^ run);

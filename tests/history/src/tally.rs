@@ -1,15 +1,17 @@
 //! What was seen. The program fails when a part of it never was.
 
+use crate::compare::to_model;
 use crate::damage::KINDS;
 use crate::draw::Call;
 use crate::lists::Lists;
-use second_model::ring::Record;
+use second_model::history::History;
+use second_model::ring::{Record, Unit};
 use std::collections::BTreeMap;
 use std::fmt::Display;
 use vessel_ring::{Row, HISTORY_ROWS, READINGS};
 
-/// What accepted calls have to show.
-const SIGHTS: [&str; 24] = [
+/// What accepted calls have to show, and those that turn a table or refuse to.
+const SIGHTS: [&str; 47] = [
     "note: a first reading",
     "note: of several empty rows the lowest, with rows in use behind it",
     "note: the row that a close of a full table left, between others",
@@ -18,8 +20,9 @@ const SIGHTS: [&str; 24] = [
     "note: the oldest reading makes way",
     "note: the lowest reading makes way",
     "note: the highest reading makes way",
-    "note: a temperature of -400",
-    "note: a temperature of 1200",
+    "note: a temperature of -4000",
+    "note: a temperature of 12000",
+    "note: a temperature that is out of range in tenths",
     "note: batch 4294967295",
     "note: a name with a blank first, not last",
     "note: a name with a blank last, not first",
@@ -34,6 +37,28 @@ const SIGHTS: [&str; 24] = [
     "figures: none",
     "figures: none, after a close",
     "figures: none, batch 0",
+    "figures: a sum that does not fit 16 bits",
+    "turned: an empty table",
+    "turned: all rows in use",
+    "turned: the first row",
+    "turned: a row between others",
+    "turned: the last row",
+    "turned: a row of 24 readings",
+    "turned: a reading of 1200",
+    "turned: a reading of -400",
+    "turned: a sum that does not fit 16 bits then",
+    "turned: a second time, with a reading",
+    "turned: then a note",
+    "turn refused: a second time",
+    "turn refused: a sound table",
+    "turn refused: a table of another length",
+    "turn refused: for a reading of 1201 alone",
+    "turn refused: for a reading of -401 alone",
+    "turn refused: for a reading of 3277 alone",
+    "turn refused: for a reading alone that, ten times and cut to 16 bits, is in range",
+    "turn refused: for a reading alone that is good in hundredths",
+    "turn refused: for no reading out of range",
+    "turn refused: for a cell without a reading that, ten times and cut to 16 bits, is 0",
 ];
 
 /// The refusals that these calls have. A name with a blank at an end is none of them: 30 is of send alone (02's N4).
@@ -71,6 +96,8 @@ pub struct Tally {
     sights: BTreeMap<&'static str, u64>,
     /// Damage by kind, at the first row, at one between and at the last.
     damage: [[u64; 3]; KINDS.len()],
+    /// The same of tables that were to be turned.
+    turn_damage: [[u64; 3]; KINDS.len()],
 }
 
 fn none<T: Copy + Ord, const N: usize>(names: [T; N]) -> BTreeMap<T, u64> {
@@ -92,6 +119,7 @@ impl Tally {
             lengths: none(LENGTHS),
             sights: none(SIGHTS),
             damage: [[0; 3]; KINDS.len()],
+            turn_damage: [[0; 3]; KINDS.len()],
         }
     }
 
@@ -112,15 +140,14 @@ impl Tally {
     }
 
     pub fn damaged(&mut self, kind: usize, row: usize) {
-        let place = match row {
-            0 => 0,
-            LAST => 2,
-            _ => 1,
-        };
-        self.damage[kind][place] += 1;
+        self.damage[kind][place(row)] += 1;
     }
 
-    fn see(&mut self, holds: bool, name: &'static str) {
+    pub fn turn_damaged(&mut self, kind: usize, row: usize) {
+        self.turn_damage[kind][place(row)] += 1;
+    }
+
+    pub fn see(&mut self, holds: bool, name: &'static str) {
         if holds {
             count(&mut self.sights, name);
         }
@@ -136,8 +163,9 @@ impl Tally {
 
     fn noted(&mut self, seen: &Seen, record: &Record) {
         let batch = record.number.0;
-        self.see(record.temperature == -400, "note: a temperature of -400");
-        self.see(record.temperature == 1200, "note: a temperature of 1200");
+        self.see(record.temperature == -4000, "note: a temperature of -4000");
+        self.see(record.temperature == 12000, "note: a temperature of 12000");
+        self.see(!in_tenths(&record.temperature), "note: a temperature that is out of range in tenths");
         self.see(batch == u32::MAX, "note: batch 4294967295");
         let name = &record.name[..record.length.into()];
         let (first, last) = (name.starts_with(b" "), name.ends_with(b" "));
@@ -186,6 +214,54 @@ impl Tally {
         self.see(readings == 0, "figures: none");
         self.see(readings == 0 && seen.lists.was_closed(batch), "figures: none, after a close");
         self.see(batch == 0, "figures: none, batch 0");
+        let sum = seen.lists.figures(batch).sum;
+        self.see(sum != i32::from(sum as i16), "figures: a sum that does not fit 16 bits");
+    }
+
+    /// A table that was turned, or refused, as it was before.
+    pub fn turned(&mut self, table: &[Row], answer: u8) {
+        self.calls += 1;
+        if answer != 0 {
+            self.turn_refused(table);
+            return;
+        }
+        let in_use = |at: &usize| table[*at].batch != 0;
+        let holds = |value: i16| table.iter().any(|row| row.readings.contains(&value));
+        self.see(!(0..HISTORY_ROWS).any(|at| in_use(&at)), "turned: an empty table");
+        self.see((0..HISTORY_ROWS).all(|at| in_use(&at)), "turned: all rows in use");
+        self.see(in_use(&0), "turned: the first row");
+        self.see((1..LAST).any(|at| in_use(&at)), "turned: a row between others");
+        self.see(in_use(&LAST), "turned: the last row");
+        self.see(table.iter().any(|row| row.count as usize == READINGS), "turned: a row of 24 readings");
+        self.see(holds(1200), "turned: a reading of 1200");
+        self.see(holds(-400), "turned: a reading of -400");
+    }
+
+    fn turn_refused(&mut self, table: &[Row]) {
+        let sound = |table: &[Row]| History::of(&table.iter().map(to_model).collect::<Vec<_>>()).is_ok();
+        self.see(sound(table), "turn refused: a sound table");
+        self.see(table.len() != HISTORY_ROWS, "turn refused: a table of another length");
+        let mut mended = table.to_vec();
+        let cells = mended.iter_mut().flat_map(|row| &mut row.readings);
+        let mut out: Vec<&mut i16> = cells.filter(|reading| !in_tenths(reading)).collect();
+        self.see(out.is_empty(), "turn refused: for no reading out of range");
+        let [reading] = &mut out[..] else {
+            return;
+        };
+        let value = std::mem::replace(*reading, 0);
+        // All else is right where the table is sound without it.
+        let alone = sound(&mended);
+        let at = (0..table.len()).find(|&at| table[at] != mended[at]);
+        let in_row = at.is_some_and(|at| table[at].readings[..(table[at].count as usize).min(READINGS)].contains(&value));
+        let wraps = Unit::Hundredths.range().contains(&value.wrapping_mul(10));
+        let mut see = |holds: bool, name| self.see(alone && holds, name);
+        see(in_row && value == 1201, "turn refused: for a reading of 1201 alone");
+        see(in_row && value == -401, "turn refused: for a reading of -401 alone");
+        see(in_row && value == 3277, "turn refused: for a reading of 3277 alone");
+        see(in_row && wraps, "turn refused: for a reading alone that, ten times and cut to 16 bits, is in range");
+        see(in_row && Unit::Hundredths.range().contains(&value), "turn refused: for a reading alone that is good in hundredths");
+        let to_nothing = value.wrapping_mul(10) == 0;
+        see(!in_row && to_nothing, "turn refused: for a cell without a reading that, ten times and cut to 16 bits, is 0");
     }
 
     pub fn print(&self) {
@@ -197,9 +273,11 @@ impl Tally {
         for (name, times) in &self.sights {
             println!("{times:8} {name}");
         }
-        println!("damage at the first row, between, at the last:");
-        for (kind, [first, between, last]) in KINDS.iter().zip(&self.damage) {
-            println!("{first:8} {between:8} {last:8} {}", kind.name);
+        for (what, damage) in [("damage", &self.damage), ("of tables to be turned", &self.turn_damage)] {
+            println!("{what} at the first row, between, at the last:");
+            for (kind, [first, between, last]) in KINDS.iter().zip(damage) {
+                println!("{first:8} {between:8} {last:8} {}", kind.name);
+            }
         }
     }
 
@@ -210,12 +288,27 @@ impl Tally {
         missing.extend(never("25 before ", &self.behind));
         missing.extend(never("rows lent: ", &self.lengths));
         missing.extend(never("", &self.sights));
-        for (kind, places) in KINDS.iter().zip(&self.damage) {
-            let named = ["first row", "a row between", "last row"].into_iter().zip(places);
-            missing.extend(named.filter(|(_, times)| **times == 0).map(|(place, _)| format!("{}: {place}", kind.name)));
+        for (what, damage) in [("", &self.damage), ("to be turned, ", &self.turn_damage)] {
+            for (kind, places) in KINDS.iter().zip(damage) {
+                let named = ["first row", "a row between", "last row"].into_iter().zip(places);
+                missing.extend(named.filter(|(_, times)| **times == 0).map(|(place, _)| format!("{what}{}: {place}", kind.name)));
+            }
         }
         missing
     }
+}
+
+/// The place of a row in a count: the first, one between or the last.
+fn place(row: usize) -> usize {
+    match row {
+        0 => 0,
+        LAST => 2,
+        _ => 1,
+    }
+}
+
+fn in_tenths(temperature: &i16) -> bool {
+    Unit::Tenths.range().contains(temperature)
 }
 
 /// The row of a batch, or the lowest empty row for 0.

@@ -1,12 +1,14 @@
-//! What a tape shows of withdrawals and of the ends of names, seen by following it
-//! once more. It is apart from the listing, so that the listing costs what it did.
+//! What a tape shows of withdrawals, of the ends of names and of the two units, seen
+//! by following it once more. It is apart from the listing, so that the listing costs
+//! what it did.
 
 use crate::listing::{apply, TAPE_LIMIT};
 use crate::ring::{
-    Channel, ChannelNumber, Delivery, NodeNumber, Refusal, Ring, ANSWERING, ASKING, BLANK, CHANNELS,
-    SLOTS,
+    Channel, ChannelNumber, Delivery, Fields, NodeNumber, Refusal, Ring, Unit, ANSWERING, ASKING,
+    BLANK, CHANNELS, SLOTS,
 };
 use crate::tape::{self, Command, Read};
+use std::collections::VecDeque;
 
 #[derive(Clone, Copy, PartialEq, Eq, Debug, Default)]
 pub struct Withdrawals {
@@ -215,13 +217,124 @@ pub fn names(tape: &[u8]) -> Names {
             ring.channels.get(number.0 as usize).is_some_and(|channel| !channel.offer.is_none())
         };
         let send = match command {
-            Command::Send(number, record) => Some((record, offered(number))),
+            Command::Send(number, fields) => Some((fields, offered(number))),
             _ => None,
         };
-        let answer = apply(ring, command).map_or_else(|refusal| refusal as u8, |_| 0);
-        if let Some((record, offered)) = send {
-            seen.look(record.length, &record.name, offered, answer);
+        let answer = number_of(&apply(ring, command));
+        if let Some((fields, offered)) = send {
+            seen.look(fields.length, &fields.name, offered, answer);
         }
     });
+    seen
+}
+
+/// The refusal's number, or 0.
+fn number_of(answer: &Result<Option<Delivery>, Refusal>) -> u8 {
+    answer.map_or_else(|refusal| refusal as u8, |_| 0)
+}
+
+/// What sends have to show of temperatures in both units (02, N5). Where 12 is
+/// answered the channel is there and the batch number good.
+pub const TEMPERATURE_SIGHTS: [&str; 24] = [
+    "21: 0 for 1200",
+    "21: 0 for -400",
+    "21: 12 for 1201",
+    "21: 12 for -401",
+    "21: 12 for 3276, ten times as many just fit 16 bits",
+    "21: 12 for 3277, ten times as many do not",
+    "21: 12 for -3277, ten times as many do not",
+    "21: 12 where ten times as many, cut to 16 bits, are in range",
+    "21: 12 for a temperature that is good in hundredths",
+    "21: 8 where 12 applies too",
+    "21: 9 where 12 applies too",
+    "21: 11 where 12 applies too",
+    "21: 12 where 13 applies too",
+    "25: 0 for 12000",
+    "25: 0 for -4000",
+    "25: 12 for 12001",
+    "25: 12 for -4001",
+    "25: 0 for 1201, out of range in tenths",
+    "25: 0 for -401, out of range in tenths",
+    "25: 0 for hundredths that are no whole tenths",
+    "25: 8 where 12 applies too",
+    "25: 9 where 12 applies too",
+    "25: 11 where 12 applies too",
+    "25: 12 where 13 applies too",
+];
+
+/// How often sends showed each of `TEMPERATURE_SIGHTS`, how many were accepted, and
+/// how often records sent in both units were delivered on one tape.
+#[derive(Clone, Copy, PartialEq, Eq, Debug, Default)]
+pub struct Temperatures {
+    pub sights: [u32; TEMPERATURE_SIGHTS.len()],
+    pub accepted: [u32; Unit::ALL.len()],
+    pub both_delivered: u32,
+}
+
+impl Temperatures {
+    /// What several tapes show.
+    pub fn add(&mut self, other: &Temperatures) {
+        self.sights.iter_mut().zip(other.sights).for_each(|(sum, count)| *sum += count);
+        self.accepted.iter_mut().zip(other.accepted).for_each(|(sum, count)| *sum += count);
+        self.both_delivered += other.both_delivered;
+    }
+
+    /// A send's fields, and the refusal or 0.
+    pub fn look(&mut self, fields: &Fields, answer: u8) {
+        let value = fields.temperature;
+        let out = !fields.unit.range().contains(&value);
+        let long = fields.length > 32;
+        let sees = |number, holds: bool| answer == number && holds;
+        let order = [sees(8, out), sees(9, out), sees(11, out), sees(12, long)];
+        let good = Unit::Hundredths.range();
+        let tenths = [
+            sees(0, value == 1200),
+            sees(0, value == -400),
+            sees(12, value == 1201),
+            sees(12, value == -401),
+            sees(12, value == 3276),
+            sees(12, value == 3277),
+            sees(12, value == -3277),
+            sees(12, good.contains(&value.wrapping_mul(10))),
+            sees(12, good.contains(&value)),
+        ];
+        let hundredths = [
+            sees(0, value == 12000),
+            sees(0, value == -4000),
+            sees(12, value == 12001),
+            sees(12, value == -4001),
+            sees(0, value == 1201),
+            sees(0, value == -401),
+            sees(0, value % 10 != 0),
+        ];
+        let (first, shown) = match fields.unit {
+            Unit::Tenths => (0, [&tenths[..], &order].concat()),
+            Unit::Hundredths => (tenths.len() + order.len(), [&hundredths[..], &order].concat()),
+        };
+        let sights = &mut self.sights[first..];
+        sights.iter_mut().zip(shown).for_each(|(count, shown)| *count += shown as u32);
+        self.accepted[fields.unit as usize] += (answer == 0) as u32;
+    }
+}
+
+/// What a tape shows of temperatures in both units.
+pub fn temperatures(tape: &[u8]) -> Temperatures {
+    let mut seen = Temperatures::default();
+    // The units of the records that each channel was given and has not delivered.
+    let mut held: [VecDeque<Unit>; CHANNELS] = std::array::from_fn(|_| VecDeque::new());
+    let mut delivered = Vec::new();
+    follow(tape, |ring, command| {
+        let answer = apply(ring, command);
+        if let Command::Send(number, fields) = command {
+            seen.look(fields, number_of(&answer));
+            if answer.is_ok() {
+                held[number.0 as usize].push_back(fields.unit);
+            }
+        }
+        if let Ok(Some(delivery)) = answer {
+            delivered.extend(held[delivery.channel.0 as usize].pop_front());
+        }
+    });
+    seen.both_delivered = Unit::ALL.iter().all(|unit| delivered.contains(unit)) as u32;
     seen
 }

@@ -5,8 +5,8 @@
 
 use crate::listing::{apply, TAPE_LIMIT};
 use crate::ring::{
-    BatchNumber, ChannelNumber, NodeNumber, Record, Ring, ASKING, BLANK, CHANNELS, NODES, RESTING,
-    SLOTS,
+    BatchNumber, ChannelNumber, Fields, NodeNumber, Record, Ring, Unit, ASKING, BLANK, CHANNELS,
+    NODES, RESTING, SLOTS,
 };
 use crate::tape::{self, Command, SEND_WIDTH};
 
@@ -129,8 +129,8 @@ fn receive(channel: u8) -> Command {
     Command::Receive(ChannelNumber(channel))
 }
 
-fn send(channel: u8, record: Record) -> Command {
-    Command::Send(ChannelNumber(channel), record)
+fn send(channel: u8, fields: Fields) -> Command {
+    Command::Send(ChannelNumber(channel), fields)
 }
 
 fn enter(node: u8) -> Command {
@@ -152,12 +152,48 @@ pub fn record_named(name: &[u8]) -> Record {
     let mut record = Record {
         number: BatchNumber(7),
         vessel: 3,
-        temperature: 612,
+        temperature: 6120,
         length: name.len() as u8,
         name: [0; 32],
     };
     record.name[..name.len()].copy_from_slice(name);
     record
+}
+
+/// The fields that make this record, in tenths, as they are on 01's tape.
+pub fn fields_named(name: &[u8]) -> Fields {
+    Fields { unit: Unit::Tenths, temperature: 612, ..Fields::of(&record_named(name)) }
+}
+
+/// Tenths on both sides of every edge: of the range, of what fits 16 bits ten times
+/// as many (3276 and 3277), and of what would be in range again with 16 bits kept
+/// (from 6154 to 7753, say). Some are good in hundredths.
+pub const EDGE_TENTHS: [i16; 24] = [
+    -32768, -6554, -4000, -3277, -3276, -401, -400, -399, -1, 0, 1, 255, 256, 1199, 1200, 1201,
+    3276, 3277, 3278, 6120, 6553, 6554, 12000, 32767,
+];
+
+/// Hundredths likewise; some are out of range in tenths.
+pub const EDGE_HUNDREDTHS: [i16; 20] = [
+    -32768, -4010, -4001, -4000, -3999, -401, -400, -1, 0, 1, 255, 256, 612, 1200, 1201, 11999,
+    12000, 12001, 12010, 32767,
+];
+
+fn edge_temperatures(unit: Unit) -> &'static [i16] {
+    match unit {
+        Unit::Tenths => &EDGE_TENTHS,
+        Unit::Hundredths => &EDGE_HUNDREDTHS,
+    }
+}
+
+fn good_temperature(random: &mut Random, unit: Unit) -> i16 {
+    let (coldest, hottest) = (*unit.range().start(), *unit.range().end());
+    match random.below(8) {
+        0 => coldest,
+        1 => hottest,
+        2 => random.pick(&[-1, 0, 1, coldest + 1, hottest - 1]),
+        _ => coldest + random.between(0, (hottest - coldest) as usize) as i16,
+    }
 }
 
 fn printable(random: &mut Random) -> u8 {
@@ -168,82 +204,94 @@ fn printable(random: &mut Random) -> u8 {
     }
 }
 
-/// A good record, as a ring may hold it and the history takes it: its name may
-/// have a blank at an end.
-pub fn good_record(random: &mut Random) -> Record {
-    let mut record = Record::NONE;
-    record.number = BatchNumber(match random.below(8) {
+/// The fields of a good record, as a ring may hold it and the history takes it: its
+/// name may have a blank at an end.
+fn good_fields(random: &mut Random, unit: Unit) -> Fields {
+    let mut fields = Fields { unit, ..Fields::of(&Record::NONE) };
+    fields.number = BatchNumber(match random.below(8) {
         0 => 1,
         1 => u32::MAX,
         // Few numbers, so that different records of the same batch meet.
         2 | 3 => random.between(1, 5) as u32,
         _ => (random.draw() as u32).max(1),
     });
-    record.vessel = random.byte();
-    record.temperature = match random.below(8) {
-        0 => -400,
-        1 => 1200,
-        2 => random.pick(&[-1, 0, 1, -399, 1199]),
-        _ => random.between(0, 1600) as i16 - 400,
-    };
-    record.length = match random.below(6) {
+    fields.vessel = random.byte();
+    fields.temperature = good_temperature(random, unit);
+    fields.length = match random.below(6) {
         0 => 0,
         1 => 32,
         2 => 1,
         _ => random.between(0, 32) as u8,
     };
-    for at in 0..record.length as usize {
-        record.name[at] = printable(random);
+    for at in 0..fields.length as usize {
+        fields.name[at] = printable(random);
     }
-    record
+    fields
 }
 
-/// A good record that a send takes: without a blank at an end of its name. As
-/// many numbers are drawn as for `good_record`, and all else is the same.
-pub fn record_to_send(random: &mut Random) -> Record {
-    let mut record = good_record(random);
-    for end in [0, last_of(&record)] {
-        if record.name[end] == BLANK {
-            record.name[end] = b'A';
+/// A good record, with a blank at an end of its name or without.
+pub fn good_record(random: &mut Random) -> Record {
+    record_of(good_fields(random, Unit::Hundredths))
+}
+
+/// The record of fields in hundredths, good or bad.
+fn record_of(fields: Fields) -> Record {
+    let Fields { number, temperature, vessel, length, name, .. } = fields;
+    Record { number, temperature, vessel, length, name }
+}
+
+/// The fields of a record that a send takes: without a blank at an end of its name.
+/// As many numbers are drawn as for `good_fields`, and all else is the same.
+pub fn fields_to_send(random: &mut Random, unit: Unit) -> Fields {
+    let mut fields = good_fields(random, unit);
+    for end in [0, last_of(&fields)] {
+        if fields.name[end] == BLANK {
+            fields.name[end] = b'A';
         }
     }
-    record
+    fields
 }
 
 /// The place of a name's last byte; 0 of an empty name.
-fn last_of(record: &Record) -> usize {
-    (record.length as usize).saturating_sub(1)
+fn last_of(fields: &Fields) -> usize {
+    (fields.length as usize).saturating_sub(1)
 }
 
-/// A good record with a blank at one end of its name or at both, or with a name
-/// of one blank: 30 to a send.
-fn blank_ended_record(random: &mut Random) -> Record {
-    let mut record = record_to_send(random);
-    if record.length == 0 || random.percent(15) {
-        return Record { length: 1, name: record_named(b" ").name, ..record };
+/// The fields of a good record with a blank at one end of its name or at both, or
+/// with a name of one blank: 30 to a send.
+fn blank_ended_fields(random: &mut Random, unit: Unit) -> Fields {
+    let mut fields = fields_to_send(random, unit);
+    if fields.length == 0 || random.percent(15) {
+        return Fields { length: 1, name: record_named(b" ").name, ..fields };
     }
-    let last = last_of(&record);
+    let last = last_of(&fields);
     for end in random.pick(&[[0, 0], [last, last], [0, last]]) {
-        record.name[end] = BLANK;
+        fields.name[end] = BLANK;
     }
-    record
+    fields
 }
 
-/// A record with one fault or several; the first in the order of 01 decides.
-pub fn bad_record(random: &mut Random) -> Record {
-    let mut record = good_record(random);
+/// The fields of a record with one fault or several; the first in the order of 01
+/// decides. A temperature at an edge may be none.
+fn bad_fields(random: &mut Random, unit: Unit) -> Fields {
+    let mut fields = good_fields(random, unit);
     let faults = if random.percent(60) { 1 } else { random.between(2, 4) };
     for _ in 0..faults {
         match random.below(5) {
-            0 => record.number = BatchNumber(0),
-            1 => record.temperature = random.pick(&[-401, 1201, -32768, 32767, -1000, 5000]),
-            2 => record.length = random.pick(&[33, 34, 64, 255]),
+            0 => fields.number = BatchNumber(0),
+            1 => fields.temperature = random.pick(edge_temperatures(unit)),
+            2 => fields.length = random.pick(&[33, 34, 64, 255]),
             // A byte that may be in the name or in the fill, whichever it hits.
-            3 => record.name[random.below(32)] = random.pick(&[0, 0x1F, 0x7F, 0x80, 0xFF]),
-            _ => record.name[31] ^= random.pick(&[0x01, 0x20, 0x41, 0x80]),
+            3 => fields.name[random.below(32)] = random.pick(&[0, 0x1F, 0x7F, 0x80, 0xFF]),
+            _ => fields.name[31] ^= random.pick(&[0x01, 0x20, 0x41, 0x80]),
         }
     }
-    record
+    fields
+}
+
+/// A record with faults, likewise.
+pub fn bad_record(random: &mut Random) -> Record {
+    record_of(bad_fields(random, Unit::Hundredths))
 }
 
 // ---- Plans: nodes with their slots, channels with their two nodes.
@@ -292,22 +340,40 @@ struct Habits {
     enter: usize,
     movement: usize,
     withdraw: usize,
+    /// Percent of sends that are in hundredths.
+    hundredths: usize,
     /// Percent of commands with operands that no look at the ring chose.
     blind: usize,
     /// Percent of commands drawn without regard to any limit.
     wild: usize,
 }
 
-const STEADY: Habits =
-    Habits { receive: 10, send: 10, enter: 20, movement: 60, withdraw: 3, blind: 3, wild: 1 };
-/// Draws the benchmark's tapes too: without withdrawals they stay what they are.
-const LEGAL: Habits =
-    Habits { receive: 10, send: 10, enter: 20, movement: 60, withdraw: 0, blind: 0, wild: 0 };
+const STEADY: Habits = Habits {
+    receive: 10,
+    send: 10,
+    enter: 20,
+    movement: 60,
+    withdraw: 3,
+    hundredths: 50,
+    blind: 3,
+    wild: 1,
+};
+/// Draws the benchmark's tapes too: without withdrawals and hundredths they stay what
+/// they are.
+const LEGAL: Habits = Habits { withdraw: 0, hundredths: 0, blind: 0, wild: 0, ..STEADY };
 /// Fills lines and buffers, then goes on blindly: full buffers and turn marks.
 const CROWDED: Habits =
-    Habits { receive: 25, send: 8, enter: 30, movement: 37, withdraw: 6, blind: 30, wild: 1 };
-const UNRULY: Habits =
-    Habits { receive: 15, send: 15, enter: 25, movement: 45, withdraw: 8, blind: 30, wild: 20 };
+    Habits { receive: 25, send: 8, enter: 30, movement: 37, withdraw: 6, blind: 30, ..STEADY };
+const UNRULY: Habits = Habits {
+    receive: 15,
+    send: 15,
+    enter: 25,
+    movement: 45,
+    withdraw: 8,
+    blind: 30,
+    wild: 20,
+    ..STEADY
+};
 
 fn draw_habits(random: &mut Random) -> Habits {
     Habits {
@@ -316,6 +382,7 @@ fn draw_habits(random: &mut Random) -> Habits {
         enter: random.between(5, 40),
         movement: random.between(20, 90),
         withdraw: random.pick(&[0, 2, 5, 15]),
+        hundredths: random.pick(&[0, 20, 80, 100]),
         blind: random.pick(&[0, 1, 5, 20, 50]),
         wild: random.pick(&[0, 0, 1, 3, 10]),
     }
@@ -336,13 +403,14 @@ fn run(writer: &mut Writer, random: &mut Random, habits: Habits, limit: usize) {
 fn next_command(ring: &Ring, random: &mut Random, habits: Habits) -> Command {
     let weights = [habits.receive, habits.send, habits.enter, habits.movement, habits.withdraw];
     let kind = weighted(random, &weights);
+    let unit = draw_unit(random, habits.hundredths);
     let looks = !random.percent(habits.blind);
     if looks {
         // The drawn kind if it would be accepted, else another that would. No
         // withdrawal stands in for another kind: it would undo what was reached.
         let others = (1..=4).map(|turn| (kind + turn) % 4).filter(|&other| other != kind);
         for kind in std::iter::once(kind).chain(others) {
-            if let Some(command) = accepted_command(ring, random, kind) {
+            if let Some(command) = accepted_command(ring, random, kind, unit) {
                 return command;
             }
         }
@@ -351,12 +419,21 @@ fn next_command(ring: &Ring, random: &mut Random, habits: Habits) -> Command {
     let channel = random.below(ring.channel_count.max(1) as usize + 1) as u8;
     match kind {
         0 => receive(channel),
-        1 if random.percent(30) => send(channel, bad_record(random)),
-        1 if random.percent(40) => send(channel, blank_ended_record(random)),
-        1 => send(channel, good_record(random)),
+        1 if random.percent(30) => send(channel, bad_fields(random, unit)),
+        1 if random.percent(40) => send(channel, blank_ended_fields(random, unit)),
+        1 => send(channel, good_fields(random, unit)),
         2 => enter(node),
         3 => move_at(node),
         _ => withdraw(channel),
+    }
+}
+
+/// A run that sends in tenths alone draws nothing for it.
+fn draw_unit(random: &mut Random, hundredths: usize) -> Unit {
+    if hundredths > 0 && random.percent(hundredths) {
+        Unit::Hundredths
+    } else {
+        Unit::Tenths
     }
 }
 
@@ -371,8 +448,8 @@ fn weighted(random: &mut Random, weights: &[usize]) -> usize {
     weights.len() - 1
 }
 
-/// A command of this kind that the ring as it is would accept.
-fn accepted_command(ring: &Ring, random: &mut Random, kind: usize) -> Option<Command> {
+/// A command of this kind that the ring as it is would accept; a send in this unit.
+fn accepted_command(ring: &Ring, random: &mut Random, kind: usize, unit: Unit) -> Option<Command> {
     let mut node = || around(random, ring.node_count);
     match kind {
         0 => around(random, ring.channel_count)
@@ -380,7 +457,7 @@ fn accepted_command(ring: &Ring, random: &mut Random, kind: usize) -> Option<Com
             .map(receive),
         1 => around(random, ring.channel_count)
             .find(|&at| ring.channels[at as usize].offer.is_none())
-            .map(|at| send(at, record_to_send(random))),
+            .map(|at| send(at, fields_to_send(random, unit))),
         2 => node().find(|&at| enter_looks_good(ring, at)).map(enter),
         3 => node().find(|&at| move_looks_good(ring, at)).map(move_at),
         _ => around(random, ring.channel_count)
@@ -437,19 +514,21 @@ fn wild_command(random: &mut Random) -> Command {
         1 => add_channel(one, two),
         2 => Command::Start,
         3 => receive(one),
-        4 => send(one, wild_record(random)),
+        4 => send(one, wild_fields(random)),
         5 => enter(one),
         6 => withdraw(one),
         _ => move_at(one),
     }
 }
 
-fn wild_record(random: &mut Random) -> Record {
+fn wild_fields(random: &mut Random) -> Fields {
+    let unit = random.pick(&Unit::ALL);
     match random.below(4) {
-        0 => good_record(random),
-        1 => bad_record(random),
-        2 => blank_ended_record(random),
-        _ => Record {
+        0 => good_fields(random, unit),
+        1 => bad_fields(random, unit),
+        2 => blank_ended_fields(random, unit),
+        _ => Fields {
+            unit,
             number: BatchNumber(random.draw() as u32),
             vessel: random.byte(),
             temperature: random.draw() as i16,
@@ -605,7 +684,7 @@ fn same_node_tape(random: &mut Random) -> Vec<u8> {
 fn aimed_tapes(random: &mut Random) -> Vec<Vec<u8>> {
     let mut tapes = vec![Vec::new(), listing_tape(), turn_tape(), many_refusals_tape()];
     tapes.extend([freed_move_tape(), kept_mark_tape(), undone_receives_tape(), long_line_tape()]);
-    tapes.push(blank_ends_tape());
+    tapes.extend([blank_ends_tape(), hundredths_tape()]);
     tapes.extend(record_edge_tapes());
     tapes.extend(plan_edge_tapes());
     tapes.extend(size_tapes(random));
@@ -619,7 +698,7 @@ pub fn listing_tape() -> Vec<u8> {
     let mut writer = Writer::new();
     writer.add_all(&[add_node(1), add_node(2), add_channel(1, 0), Command::Start]);
     writer.add_all(&[receive(0), receive(0), enter(0), move_at(0)]);
-    writer.add_all(&[send(0, record_named(b"A1")), enter(1), move_at(1), move_at(1)]);
+    writer.add_all(&[send(0, fields_named(b"A1")), enter(1), move_at(1), move_at(1)]);
     writer.bytes
 }
 
@@ -664,7 +743,7 @@ pub const UNDONE_RECEIVES: u32 = 1_000;
 pub fn undone_receives_tape() -> Vec<u8> {
     let mut writer = Writer::new();
     writer.add_all(&[add_node(1), add_node(2), add_channel(0, 0), add_channel(1, 1)]);
-    writer.add_all(&[Command::Start, send(0, record_named(b"A1")), receive(0)]);
+    writer.add_all(&[Command::Start, send(0, fields_named(b"A1")), receive(0)]);
     (0..UNDONE_RECEIVES).for_each(|_| writer.add_all(&[receive(1), withdraw(1)]));
     writer.add_all(&[enter(0), move_at(0), move_at(1), enter(0), move_at(0), move_at(1)]);
     writer.bytes
@@ -679,7 +758,7 @@ pub fn long_line_tape() -> Vec<u8> {
     let all = 0..CHANNELS as u8;
     all.clone().for_each(|_| writer.add(add_channel(1, 0)));
     writer.add(Command::Start);
-    all.clone().for_each(|at| writer.add(send(at, record_named(b"A1"))));
+    all.clone().for_each(|at| writer.add(send(at, fields_named(b"A1"))));
     all.clone().for_each(|at| writer.add(receive(at)));
     for at in [63, 0, 1, 31, 32, 17, 62, 61] {
         writer.add(withdraw(at));
@@ -695,22 +774,49 @@ pub fn long_line_tape() -> Vec<u8> {
 /// its own; then two on a channel that has a record offered, and all that was
 /// accepted is delivered.
 pub fn blank_ends_tape() -> Vec<u8> {
-    let records = blank_records();
+    let all = blank_fields();
     let mut writer = Writer::new();
     writer.add(add_node(64));
-    records.iter().for_each(|_| writer.add(add_channel(0, 0)));
+    all.iter().for_each(|_| writer.add(add_channel(0, 0)));
     writer.add(Command::Start);
-    let channels = || 0..records.len() as u8;
-    channels().zip(&records).for_each(|(at, &record)| writer.add(send(at, record)));
-    writer.add_all(&[send(0, record_named(b"A ")), send(0, record_named(b"AB"))]);
-    channels().for_each(|at| writer.add_all(&[receive(at), enter(0), move_at(0)]));
-    channels().for_each(|_| writer.add_all(&[enter(0), move_at(0)]));
+    (0..).zip(&all).for_each(|(at, &fields)| writer.add(send(at, fields)));
+    writer.add_all(&[send(0, fields_named(b"A ")), send(0, fields_named(b"AB"))]);
+    deliver_all(&mut writer, all.len() as u8);
+    writer.bytes
+}
+
+/// Brings home what is offered on so many channels of a ring of one node.
+fn deliver_all(writer: &mut Writer, channels: u8) {
+    (0..channels).for_each(|at| writer.add_all(&[receive(at), enter(0), move_at(0)]));
+    (0..channels).for_each(|_| writer.add_all(&[enter(0), move_at(0)]));
+}
+
+/// Both commands that send, each with every temperature at an edge on a channel of
+/// its own, and where 12 stands among the refusals; all that was accepted is
+/// delivered.
+pub fn hundredths_tape() -> Vec<u8> {
+    let with = |unit, temperature| Fields { unit, temperature, ..fields_named(b"A1") };
+    let edges = |unit| edge_temperatures(unit).iter().map(move |&value| with(unit, value));
+    let all: Vec<Fields> = Unit::ALL.into_iter().flat_map(edges).collect();
+    let hot = [with(Unit::Tenths, 1201), with(Unit::Hundredths, 12001)];
+    let mut writer = Writer::new();
+    hot.iter().for_each(|&fields| writer.add(send(0, fields)));
+    writer.add(add_node(64));
+    all.iter().for_each(|_| writer.add(add_channel(0, 0)));
+    writer.add(Command::Start);
+    for fields in hot {
+        writer.add(send(all.len() as u8, fields));
+        writer.add(send(0, Fields { number: BatchNumber(0), ..fields }));
+        writer.add(send(0, Fields { length: 33, ..fields }));
+    }
+    (0..).zip(&all).for_each(|(at, &fields)| writer.add(send(at, fields)));
+    deliver_all(&mut writer, all.len() as u8);
     writer.bytes
 }
 
 /// Names with blanks at all places where they matter. The first is accepted, so
 /// that channel 0 of `blank_ends_tape` has a record offered.
-fn blank_records() -> Vec<Record> {
+fn blank_fields() -> Vec<Fields> {
     let mut last_of_32 = [b'A'; 32];
     last_of_32[31] = BLANK;
     let mut first_of_32 = [b'A'; 32];
@@ -731,17 +837,17 @@ fn blank_records() -> Vec<Record> {
         b" \x7F",
         b"\x1F ",
     ];
-    let mut records: Vec<Record> = names.iter().map(|name| record_named(name)).collect();
-    records.push(Record { length: 33, ..record_named(&last_of_32) });
-    records.push(Record { length: 1, ..record_named(b"A ") });
-    records.push(Record { length: 1, ..record_named(b" A") });
-    records
+    let mut all: Vec<Fields> = names.iter().map(|name| fields_named(name)).collect();
+    all.push(Fields { length: 33, ..fields_named(&last_of_32) });
+    all.push(Fields { length: 1, ..fields_named(b"A ") });
+    all.push(Fields { length: 1, ..fields_named(b" A") });
+    all
 }
 
 /// Most refusals on one tape, 27 and 28 among them; a tape has 22 or 23 once, at
 /// its end.
 fn many_refusals_tape() -> Vec<u8> {
-    let good = record_named(b"A1");
+    let good = fields_named(b"A1");
     let mut writer = Writer::new();
     // 8 and, before any node, 6, 5 and 3.
     writer.add_all(&[receive(0), send(0, good), enter(0), move_at(0), withdraw(0)]);
@@ -758,8 +864,8 @@ fn many_refusals_tape() -> Vec<u8> {
     writer.add_all(&[receive(1), enter(15), move_at(15), move_at(15)]);
     writer.add_all(&[receive(2), enter(15), receive(3), enter(15), enter(15), move_at(1)]);
     writer.add_all(&[move_at(0), move_at(0), move_at(0), enter(0)]);
-    for record in edge_records() {
-        writer.add(send(14, record));
+    for fields in edge_fields(Unit::Tenths) {
+        writer.add(send(14, fields));
     }
     writer.add(send(14, good));
     let mut random = Random::new(1);
@@ -775,9 +881,9 @@ fn record_edge_tapes() -> Vec<Vec<u8>> {
         let mut writer = Writer::new();
         (0..nodes).for_each(|_| writer.add(add_node(2)));
         writer.add_all(&[add_channel(from, to), Command::Start]);
-        for record in edge_records() {
+        for fields in Unit::ALL.into_iter().flat_map(edge_fields) {
             // Sent twice: the second is 15, or the fault once more.
-            writer.add_all(&[send(0, record), send(0, record), receive(0)]);
+            writer.add_all(&[send(0, fields), send(0, fields), receive(0)]);
             go_round(&mut writer, nodes);
         }
         tapes.push(writer.bytes);
@@ -794,56 +900,56 @@ fn go_round(writer: &mut Writer, nodes: u8) {
     }
 }
 
-fn edge_records() -> Vec<Record> {
-    let plain = record_named(b"A1");
-    let mut records = Vec::new();
+fn edge_fields(unit: Unit) -> Vec<Fields> {
+    let plain = Fields { unit, ..fields_named(b"A1") };
+    let mut all = Vec::new();
     for number in [0, 1, 2, 255, 256, 65_535, 65_536, 1 << 31, u32::MAX] {
-        records.push(Record { number: BatchNumber(number), ..plain });
+        all.push(Fields { number: BatchNumber(number), ..plain });
     }
-    for temperature in [-32768, -401, -400, -399, -1, 0, 1, 255, 256, 1199, 1200, 1201, 32767] {
-        records.push(Record { temperature, ..plain });
+    for &temperature in edge_temperatures(unit) {
+        all.push(Fields { temperature, ..plain });
     }
     for vessel in [0, 1, 127, 128, 255] {
-        records.push(Record { vessel, ..plain });
+        all.push(Fields { vessel, ..plain });
     }
     for length in [0, 1, 2, 31, 32, 33, 34, 64, 128, 255] {
         // Once with the name as long as said (32 at most), once with all 32
         // bytes filled, once with none.
-        let mut fitting = Record { length, name: [0; 32], ..plain };
+        let mut fitting = Fields { length, name: [0; 32], ..plain };
         fitting.name[..(length as usize).min(32)].fill(b'n');
-        records.push(fitting);
-        records.push(Record { length, name: [b'n'; 32], ..plain });
-        records.push(Record { length, name: [0; 32], ..plain });
+        all.push(fitting);
+        all.push(Fields { length, name: [b'n'; 32], ..plain });
+        all.push(Fields { length, name: [0; 32], ..plain });
     }
-    records.extend(name_byte_records());
-    records.extend(blank_records());
+    let named = name_byte_fields().into_iter().chain(blank_fields());
+    all.extend(named.map(|fields| Fields { unit, ..fields }));
     // Several faults at once: the first in the order of 01 is the answer.
-    let mut faulty = record_named(&[0x7F; 3]);
-    records.push(faulty);
+    let mut faulty = Fields { unit, ..fields_named(&[0x7F; 3]) };
+    all.push(faulty);
     faulty.length = 33;
-    records.push(faulty);
-    faulty.temperature = 1201;
-    records.push(faulty);
+    all.push(faulty);
+    faulty.temperature = unit.range().end() + 1;
+    all.push(faulty);
     faulty.number = BatchNumber(0);
-    records.push(faulty);
-    records
+    all.push(faulty);
+    all
 }
 
 /// A byte at the edges of those that a name may have, at places within the name,
 /// at its ends, and in the fill behind it.
-fn name_byte_records() -> Vec<Record> {
-    let mut records = Vec::new();
+fn name_byte_fields() -> Vec<Fields> {
+    let mut all = Vec::new();
     for byte in [0x00, 0x1F, 0x20, 0x7E, 0x7F, 0x80, 0xFF] {
         for place in [0, 2, 4, 5, 31] {
-            let mut record = record_named(b"batch");
-            record.name[place] = byte;
-            records.push(record);
+            let mut fields = fields_named(b"batch");
+            fields.name[place] = byte;
+            all.push(fields);
         }
-        let mut full = record_named(&[b'f'; 32]);
+        let mut full = fields_named(&[b'f'; 32]);
         full.name[31] = byte;
-        records.push(full);
+        all.push(full);
     }
-    records
+    all
 }
 
 /// The limits of plans: P1, P2 and P10 of 01, every number of nodes, 17 nodes,
@@ -900,7 +1006,7 @@ fn size_tapes(random: &mut Random) -> Vec<Vec<u8>> {
     tapes.push(vec![tape::START; TAPE_LIMIT]);
     let mut cut = vec![tape::START; TAPE_LIMIT - 41];
     cut.resize(TAPE_LIMIT, 0);
-    cut[TAPE_LIMIT - 41] = tape::SEND;
+    cut[TAPE_LIMIT - 41] = tape::SEND_TENTHS;
     tapes.push(cut.clone());
     // The same with the missing byte: a whole command, but too long.
     cut.push(0);
@@ -920,10 +1026,11 @@ fn cut_tapes() -> Vec<Vec<u8>> {
         add_channel(0, 0),
         Command::Start,
         receive(0),
-        send(0, record_named(b"A1")),
+        send(0, fields_named(b"A1")),
         enter(0),
         move_at(0),
         withdraw(0),
+        send(0, Fields::of(&record_named(b"A1"))),
     ];
     let mut tapes = Vec::new();
     for command in whole {

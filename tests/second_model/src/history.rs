@@ -1,8 +1,8 @@
-//! Request N2 of document 02, "Temperature history for each batch". A row in use
-//! is a batch number and a queue of readings; `Row` is how it is lent, and a lent
-//! table may hold anything.
+//! Request N2 of document 02, "Temperature history for each batch", in hundredths
+//! of a degree (N5). A row in use is a batch number and a queue of readings; `Row`
+//! is how it is lent, and a lent table may hold anything.
 
-use crate::ring::{require, BatchNumber, Record, Refusal, TEMPERATURES};
+use crate::ring::{require, BatchNumber, Record, Refusal, Unit};
 use std::collections::{HashSet, VecDeque};
 
 /// "The history is a table of 128 rows that the controller lends."
@@ -49,12 +49,29 @@ impl History {
         History { rows: vec![None; ROWS] }
     }
 
-    /// The history in a lent table: "25 also covers a table that hasn't exactly
-    /// 128 rows, has a row that isn't as said here, or has two rows of one
-    /// batch". Every call on a table begins with this.
+    /// The history in a lent table. Every call on a table begins with this, but the
+    /// one that turns it.
     pub fn of(table: &[Row]) -> Result<History, Refusal> {
+        History::read(table, Unit::Hundredths)
+    }
+
+    /// 02, N5: "One call turns a ring, and another a history table, held in tenths
+    /// into hundredths: each temperature and figure ten times as many, all else the
+    /// same, 25 where it isn't sound in tenths". The figures are worked out from the
+    /// readings, so they are too. This is the history of the turned table.
+    pub fn of_tenths(table: &[Row]) -> Result<History, Refusal> {
+        let mut history = History::read(table, Unit::Tenths)?;
+        let batches = history.rows.iter_mut().flatten();
+        batches.flat_map(|batch| &mut batch.readings).for_each(|reading| *reading *= 10);
+        Ok(history)
+    }
+
+    /// "25 also covers a table that hasn't exactly 128 rows, has a row that isn't as
+    /// said here, or has two rows of one batch".
+    fn read(table: &[Row], unit: Unit) -> Result<History, Refusal> {
         require(table.len() == ROWS, Refusal::Unsound)?;
-        let rows: Vec<Option<Batch>> = table.iter().map(read_row).collect::<Result<_, _>>()?;
+        let read = table.iter().map(|row| read_row(row, unit));
+        let rows: Vec<Option<Batch>> = read.collect::<Result<_, _>>()?;
         let mut met = HashSet::new();
         let once = rows.iter().flatten().all(|batch| met.insert(batch.number.0));
         require(once, Refusal::Unsound)?;
@@ -113,14 +130,14 @@ impl History {
 
 /// "A row in use holds 1 to 24 readings in range, oldest first and zeros after
 /// the last; batch number 0 never has a row."
-fn read_row(row: &Row) -> Result<Option<Batch>, Refusal> {
+fn read_row(row: &Row, unit: Unit) -> Result<Option<Batch>, Refusal> {
     if row.batch == BatchNumber(0) {
         require(*row == Row::EMPTY, Refusal::Unsound)?;
         return Ok(None);
     }
     require((1..=READINGS as u32).contains(&row.count), Refusal::Unsound)?;
     let (held, rest) = row.readings.split_at(row.count as usize);
-    require(held.iter().all(|reading| TEMPERATURES.contains(reading)), Refusal::Unsound)?;
+    require(held.iter().all(|reading| unit.range().contains(reading)), Refusal::Unsound)?;
     require(rest.iter().all(|&reading| reading == 0), Refusal::Unsound)?;
     Ok(Some(Batch { number: row.batch, readings: held.iter().copied().collect() }))
 }

@@ -74,7 +74,7 @@ pub fn apply(ring: &mut Ring, command: &Command) -> Result<Option<Delivery>, Ref
         Command::AddChannel { sender, receiver } => ring.add_channel(*sender, *receiver)?,
         Command::Start => ring.start()?,
         Command::Receive(channel) => ring.receive(*channel)?,
-        Command::Send(channel, record) => ring.send(*channel, record)?,
+        Command::Send(channel, fields) => ring.send(*channel, fields)?,
         Command::Enter(node) => ring.enter_at(*node)?,
         Command::Move(node) => return ring.move_at(*node),
         Command::Withdraw(channel) => ring.withdraw(*channel)?,
@@ -113,7 +113,7 @@ fn print_command(
 }
 
 /// "then channel, batch number, vessel, temperature, name length and, unless
-/// empty, name, each after a space"
+/// empty, name, each after a space". 02, N5: "History and listing show hundredths".
 fn print_delivery(out: &mut Vec<u8>, delivery: &Delivery) {
     let record = &delivery.record;
     out.extend_from_slice(DELIVERED);

@@ -75,12 +75,40 @@ pub(crate) fn require(condition: bool, else_refused: Refusal) -> Result<(), Refu
     }
 }
 
-/// "temperature in tenths of a degree Celsius (signed, -400 to 1200)"
-pub const TEMPERATURES: RangeInclusive<i16> = -400..=1200;
+/// A unit of temperature: sends are given either, what is held is in hundredths.
+#[derive(Clone, Copy, PartialEq, Eq, Debug)]
+pub enum Unit {
+    Tenths,
+    Hundredths,
+}
 
-/// "Batch number (32 bits, not 0), vessel (0 to 255), temperature in tenths of
-/// a degree Celsius (signed, -400 to 1200), name length 0 to 32, name of 32
-/// bytes." All zero stands for "no record": a good record has a batch number.
+impl Unit {
+    pub const ALL: [Unit; 2] = [Unit::Tenths, Unit::Hundredths];
+
+    /// The temperatures of a good record. 01: "in tenths of a degree Celsius (signed,
+    /// -400 to 1200)"; 02, N5: "hundredths, from -4000 to 12000".
+    pub const fn range(self) -> RangeInclusive<i16> {
+        match self {
+            Unit::Tenths => -400..=1200,
+            Unit::Hundredths => -4000..=12000,
+        }
+    }
+
+    /// 02, N5: "making a record's temperature from a command's promises hundredths
+    /// or refusal 12 everywhere". Tenths "are checked against -400 to 1200 ... and
+    /// only then become ten times as many hundredths": so all fit 16 bits.
+    pub fn hundredths(self, value: i16) -> Result<i16, Refusal> {
+        require(self.range().contains(&value), Refusal::TemperatureOutOfRange)?;
+        Ok(match self {
+            Unit::Tenths => 10 * value,
+            Unit::Hundredths => value,
+        })
+    }
+}
+
+/// "Batch number (32 bits, not 0), vessel (0 to 255), temperature ..., name length
+/// 0 to 32, name of 32 bytes." The temperature is in hundredths. All zero stands for
+/// "no record": a good record has a batch number.
 #[derive(Clone, Copy, PartialEq, Eq, Debug)]
 pub struct Record {
     pub number: BatchNumber,
@@ -88,6 +116,38 @@ pub struct Record {
     pub vessel: u8,
     pub length: u8,
     pub name: [u8; 32],
+}
+
+/// What a send is given: the fields of a record, with the temperature in either
+/// unit. They may be of no good record.
+#[derive(Clone, Copy, PartialEq, Eq, Debug)]
+pub struct Fields {
+    pub unit: Unit,
+    pub number: BatchNumber,
+    pub temperature: i16,
+    pub vessel: u8,
+    pub length: u8,
+    pub name: [u8; 32],
+}
+
+impl Fields {
+    /// The fields of a record.
+    pub fn of(record: &Record) -> Fields {
+        let Record { number, temperature, vessel, length, name } = *record;
+        Fields { unit: Unit::Hundredths, number, temperature, vessel, length, name }
+    }
+
+    /// The record that they make, a good one, or the first refusal of "Send" that
+    /// says why there is none: 12 "at the place of 12 in send's order" in either
+    /// unit.
+    pub fn record(&self) -> Result<Record, Refusal> {
+        let Fields { unit, number, temperature, vessel, length, name } = *self;
+        require(number.0 != 0, Refusal::BatchNumberZero)?;
+        let temperature = unit.hundredths(temperature)?;
+        let record = Record { number, temperature, vessel, length, name };
+        record.check()?;
+        Ok(record)
+    }
 }
 
 /// The blank, the lowest byte that a name may have.
@@ -114,7 +174,8 @@ impl Record {
     /// ring may hold such a record and "the history still takes them".
     pub fn check(&self) -> Result<(), Refusal> {
         require(self.number.0 != 0, Refusal::BatchNumberZero)?;
-        require(TEMPERATURES.contains(&self.temperature), Refusal::TemperatureOutOfRange)?;
+        let in_range = Unit::Hundredths.range().contains(&self.temperature);
+        require(in_range, Refusal::TemperatureOutOfRange)?;
         require(self.length <= 32, Refusal::NameTooLong)?;
         require(self.name_good(), Refusal::NameWrong)
     }
@@ -344,15 +405,15 @@ impl Ring {
     /// "Send: 8; 9; 11 ...; 12 ...; 13 ...; 14 ...; 15 a record is already
     /// offered", with 02's N4: "30, after 14 and before 15". Then "the record is
     /// offered. If the channel is ready, it becomes answering".
-    pub fn send(&mut self, number: ChannelNumber, record: &Record) -> Result<(), Refusal> {
+    pub fn send(&mut self, number: ChannelNumber, fields: &Fields) -> Result<(), Refusal> {
         self.require_sound()?;
         self.require_started()?;
         self.require_channel(number)?;
-        record.check()?;
+        let record = fields.record()?;
         require(!record.blank_end(), Refusal::BlankEnd)?;
         let channel = &mut self.channels[number.0 as usize];
         require(channel.offer.number.0 == 0, Refusal::AlreadyOffered)?;
-        channel.offer = *record;
+        channel.offer = record;
         if channel.phase == READY {
             self.answer(number);
         }

@@ -1,15 +1,17 @@
 //! The command tape: "One command byte (hexadecimal), then operands, low byte
 //! first". `read` and `write` are each other's inverse.
 
-use crate::ring::{BatchNumber, ChannelNumber, NodeNumber, Record, Refusal};
+use crate::ring::{BatchNumber, ChannelNumber, Fields, NodeNumber, Refusal, Unit};
 
+/// A send is 21 or 25, by the unit of its fields. 02, N5: "A command that was read
+/// keeps its own unit and is written back as the command it was read as."
 #[derive(Clone, Copy, PartialEq, Eq, Debug)]
 pub enum Command {
     AddNode { slots: u8 },
     AddChannel { sender: NodeNumber, receiver: NodeNumber },
     Start,
     Receive(ChannelNumber),
-    Send(ChannelNumber, Record),
+    Send(ChannelNumber, Fields),
     Enter(NodeNumber),
     Move(NodeNumber),
     Withdraw(ChannelNumber),
@@ -19,11 +21,13 @@ pub const ADD_NODE: u8 = 0x10;
 pub const ADD_CHANNEL: u8 = 0x11;
 pub const START: u8 = 0x12;
 pub const RECEIVE: u8 = 0x20;
-pub const SEND: u8 = 0x21;
+pub const SEND_TENTHS: u8 = 0x21;
 pub const ENTER: u8 = 0x22;
 pub const MOVE: u8 = 0x23;
 /// 02, N1: "command 24 (hexadecimal ...; its operand is the channel, one byte)".
 pub const WITHDRAW: u8 = 0x24;
+/// 02, N5: "Command 25 has the fields of command 21 with hundredths".
+pub const SEND_HUNDREDTHS: u8 = 0x25;
 
 /// The largest width: command byte, then "channel 1, batch number 4, vessel 1,
 /// temperature 2, name length 1, name 32".
@@ -35,7 +39,7 @@ pub fn width(command_byte: u8) -> Option<usize> {
         START => Some(1),
         ADD_NODE | RECEIVE | ENTER | MOVE | WITHDRAW => Some(2),
         ADD_CHANNEL => Some(3),
-        SEND => Some(SEND_WIDTH),
+        SEND_TENTHS | SEND_HUNDREDTHS => Some(SEND_WIDTH),
         _ => None,
     }
 }
@@ -47,7 +51,10 @@ impl Command {
             Command::AddChannel { .. } => ADD_CHANNEL,
             Command::Start => START,
             Command::Receive(_) => RECEIVE,
-            Command::Send(..) => SEND,
+            Command::Send(_, fields) => match fields.unit {
+                Unit::Tenths => SEND_TENTHS,
+                Unit::Hundredths => SEND_HUNDREDTHS,
+            },
             Command::Enter(_) => ENTER,
             Command::Move(_) => MOVE,
             Command::Withdraw(_) => WITHDRAW,
@@ -85,7 +92,8 @@ pub fn read(bytes: &[u8], place: usize) -> Result<Read, Refusal> {
         },
         START => Command::Start,
         RECEIVE => Command::Receive(ChannelNumber(operands[0])),
-        SEND => Command::Send(ChannelNumber(operands[0]), read_record(&operands[1..])),
+        SEND_TENTHS => send(operands, Unit::Tenths),
+        SEND_HUNDREDTHS => send(operands, Unit::Hundredths),
         ENTER => Command::Enter(NodeNumber(operands[0])),
         MOVE => Command::Move(NodeNumber(operands[0])),
         _ => Command::Withdraw(ChannelNumber(operands[0])),
@@ -93,14 +101,17 @@ pub fn read(bytes: &[u8], place: usize) -> Result<Read, Refusal> {
     Ok(Read::Command(command, place + width))
 }
 
-fn read_record(bytes: &[u8]) -> Record {
-    Record {
+fn send(operands: &[u8], unit: Unit) -> Command {
+    let bytes = &operands[1..];
+    let fields = Fields {
+        unit,
         number: BatchNumber(u32::from_le_bytes([bytes[0], bytes[1], bytes[2], bytes[3]])),
         vessel: bytes[4],
         temperature: i16::from_le_bytes([bytes[5], bytes[6]]),
         length: bytes[7],
         name: bytes[8..40].try_into().expect("32 bytes"),
-    }
+    };
+    Command::Send(ChannelNumber(operands[0]), fields)
 }
 
 /// "Write a command (bytes, place): 24; 26 fewer bytes from there than its
@@ -120,19 +131,20 @@ pub fn write(command: &Command, bytes: &mut [u8], place: usize) -> Result<usize,
         }
         Command::Start => {}
         Command::Receive(channel) | Command::Withdraw(channel) => part[1] = channel.0,
-        Command::Send(channel, ref record) => {
+        Command::Send(channel, ref fields) => {
             part[1] = channel.0;
-            write_record(record, &mut part[2..]);
+            write_fields(fields, &mut part[2..]);
         }
         Command::Enter(node) | Command::Move(node) => part[1] = node.0,
     }
     Ok(place + width)
 }
 
-fn write_record(record: &Record, bytes: &mut [u8]) {
-    bytes[0..4].copy_from_slice(&record.number.0.to_le_bytes());
-    bytes[4] = record.vessel;
-    bytes[5..7].copy_from_slice(&record.temperature.to_le_bytes());
-    bytes[7] = record.length;
-    bytes[8..40].copy_from_slice(&record.name);
+/// All but the unit, which the command byte tells.
+fn write_fields(fields: &Fields, bytes: &mut [u8]) {
+    bytes[0..4].copy_from_slice(&fields.number.0.to_le_bytes());
+    bytes[4] = fields.vessel;
+    bytes[5..7].copy_from_slice(&fields.temperature.to_le_bytes());
+    bytes[7] = fields.length;
+    bytes[8..40].copy_from_slice(&fields.name);
 }

@@ -2,7 +2,9 @@
 //! the rings that hold such a name from before, and what `coverage` sees of names.
 
 use second_model::coverage::{self, Names, NAME_SIGHTS};
-use second_model::generate::{self, good_record, record_named, record_to_send, Random};
+use second_model::generate::{
+    self, fields_named, fields_to_send, good_record, record_named, Random,
+};
 use second_model::history::History;
 use second_model::listing;
 use second_model::ring::*;
@@ -22,11 +24,11 @@ fn started() -> Ring {
 
 /// A send on channel 0: its refusal or 0. A refusal changes nothing, and the
 /// record offered is the one sent, to the byte.
-fn send(ring: &mut Ring, record: &Record) -> u8 {
+fn send(ring: &mut Ring, fields: &Fields) -> u8 {
     let before = ring.clone();
-    match ring.send(CHANNEL_0, record) {
+    match ring.send(CHANNEL_0, fields) {
         Ok(()) => {
-            assert_eq!(ring.channels[0].offer, *record);
+            assert_eq!(Ok(ring.channels[0].offer), fields.record());
             0
         }
         Err(refusal) => {
@@ -36,59 +38,59 @@ fn send(ring: &mut Ring, record: &Record) -> u8 {
     }
 }
 
-fn ending_in(byte: u8) -> Record {
+fn ending_in(byte: u8) -> Fields {
     let mut name = [b'A'; 32];
     name[31] = byte;
-    record_named(&name)
+    fields_named(&name)
 }
 
 #[test]
 fn the_worked_rows() {
-    for (record, answer) in [
-        (record_named(b""), 0),
-        (record_named(b" "), 30),
-        (record_named(b"A "), 30),
-        (record_named(b" A"), 30),
-        (record_named(b"A B"), 0),
+    for (fields, answer) in [
+        (fields_named(b""), 0),
+        (fields_named(b" "), 30),
+        (fields_named(b"A "), 30),
+        (fields_named(b" A"), 30),
+        (fields_named(b"A B"), 0),
         (ending_in(b' '), 30),
         (ending_in(b'A'), 0),
-        (Record { length: 33, ..ending_in(b'A') }, 13),
-        (record_named(b" \x7F"), 14),
-        (Record { length: 1, ..record_named(b"A ") }, 14),
+        (Fields { length: 33, ..ending_in(b'A') }, 13),
+        (fields_named(b" \x7F"), 14),
+        (Fields { length: 1, ..fields_named(b"A ") }, 14),
     ] {
-        assert_eq!(send(&mut started(), &record), answer, "{record:?}");
+        assert_eq!(send(&mut started(), &fields), answer, "{fields:?}");
     }
     let mut ring = started();
-    assert_eq!(send(&mut ring, &record_named(b"A1")), 0);
-    assert_eq!(send(&mut ring, &record_named(b"A ")), 30);
-    assert_eq!(send(&mut ring, &record_named(b"AB")), 15);
+    assert_eq!(send(&mut ring, &fields_named(b"A1")), 0);
+    assert_eq!(send(&mut ring, &fields_named(b"A ")), 30);
+    assert_eq!(send(&mut ring, &fields_named(b"AB")), 15);
 }
 
 /// 25, 8, 9, 11, 12, 13, 14, 30, 15: all of them apply at first, and each that is
 /// taken away leaves the next to be answered.
 #[test]
 fn thirty_in_its_place() {
-    let mut record = ending_in(0x7F);
-    record.name[0] = b' ';
-    let mut record = Record { number: BatchNumber(0), temperature: 1201, length: 33, ..record };
+    let mut fields = ending_in(0x7F);
+    fields.name[0] = b' ';
+    let mut fields = Fields { number: BatchNumber(0), temperature: 1201, length: 33, ..fields };
     let mut unsound = Ring::fresh();
     unsound.started = 2;
-    assert_eq!(send(&mut unsound, &record), 25);
-    assert_eq!(send(&mut Ring::fresh(), &record), 8);
+    assert_eq!(send(&mut unsound, &fields), 25);
+    assert_eq!(send(&mut Ring::fresh(), &fields), 8);
     let mut ring = started();
-    assert_eq!(send(&mut ring, &record_named(b"A1")), 0);
-    assert_eq!(ring.send(ChannelNumber(1), &record), Err(Refusal::NoSuchChannel));
-    assert_eq!(send(&mut ring, &record), 11);
-    record.number = BatchNumber(7);
-    assert_eq!(send(&mut ring, &record), 12);
-    record.temperature = 1200;
-    assert_eq!(send(&mut ring, &record), 13);
-    record.length = 32;
-    assert_eq!(send(&mut ring, &record), 14);
-    record.name[31] = b'A';
-    assert_eq!(send(&mut ring, &record), 30);
-    record.name[0] = b'A';
-    assert_eq!(send(&mut ring, &record), 15);
+    assert_eq!(send(&mut ring, &fields_named(b"A1")), 0);
+    assert_eq!(ring.send(ChannelNumber(1), &fields), Err(Refusal::NoSuchChannel));
+    assert_eq!(send(&mut ring, &fields), 11);
+    fields.number = BatchNumber(7);
+    assert_eq!(send(&mut ring, &fields), 12);
+    fields.temperature = 1200;
+    assert_eq!(send(&mut ring, &fields), 13);
+    fields.length = 32;
+    assert_eq!(send(&mut ring, &fields), 14);
+    fields.name[31] = b'A';
+    assert_eq!(send(&mut ring, &fields), 30);
+    fields.name[0] = b'A';
+    assert_eq!(send(&mut ring, &fields), 15);
 }
 
 /// Every length with every printable byte first, last and between: only a blank
@@ -98,11 +100,11 @@ fn ends_by_the_letter() {
     for length in 1..=32 {
         for place in 0..length {
             for byte in 0x20..=0x7E {
-                let mut record = record_named(&[b'x'; 32][..length]);
-                record.name[place] = byte;
+                let mut fields = fields_named(&[b'x'; 32][..length]);
+                fields.name[place] = byte;
                 let blank_end = byte == b' ' && (place == 0 || place == length - 1);
-                assert_eq!(send(&mut started(), &record), if blank_end { 30 } else { 0 });
-                assert_eq!(record.check(), Ok(()));
+                assert_eq!(send(&mut started(), &fields), if blank_end { 30 } else { 0 });
+                assert!(fields.record().is_ok());
             }
         }
     }
@@ -132,12 +134,12 @@ fn an_offer_is_delivered_unchanged() {
     for name in BLANK_ENDED {
         let record = record_named(name);
         let mut ring = started();
-        ring.send(CHANNEL_0, &record_named(b"A1")).unwrap();
+        ring.send(CHANNEL_0, &fields_named(b"A1")).unwrap();
         ring.channels[0].offer = record;
         assert!(ring.sound());
         // The offer still stands in the way of the next one, and not before 30.
-        assert_eq!(send(&mut ring, &record), 30);
-        assert_eq!(send(&mut ring, &record_named(b"AB")), 15);
+        assert_eq!(send(&mut ring, &fields_named(name)), 30);
+        assert_eq!(send(&mut ring, &fields_named(b"AB")), 15);
         ring.receive(CHANNEL_0).unwrap();
         assert_eq!(delivered(ring), record);
     }
@@ -151,9 +153,9 @@ fn a_record_carried_is_delivered_unchanged() {
         ring.receive(CHANNEL_0).unwrap();
         ring.enter_at(NodeNumber(0)).unwrap();
         ring.move_at(NodeNumber(0)).unwrap();
-        ring.send(CHANNEL_0, &record_named(b"A1")).unwrap();
+        ring.send(CHANNEL_0, &fields_named(b"A1")).unwrap();
         ring.channels[0].carried = record;
-        assert_eq!(send(&mut ring, &record), 30);
+        assert_eq!(send(&mut ring, &fields_named(name)), 30);
         assert_eq!(delivered(ring), record);
     }
 }
@@ -181,18 +183,19 @@ fn the_history_takes_it() {
     }
     let row = history.table()[0];
     assert_eq!((row.batch, row.count), (BatchNumber(7), BLANK_ENDED.len() as u32));
-    assert_eq!(row.readings[..5], [612, 612, 612, 612, 0]);
+    assert_eq!(row.readings[..5], [6120, 6120, 6120, 6120, 0]);
 }
 
 // ---- The generator and what is seen of it.
 
-/// A record to send is the good record of the same numbers, but for blank ends.
+/// What is sent is the good record of the same numbers, but for blank ends.
 #[test]
 fn records_to_send() {
     let (mut one, mut other) = (Random::new(1), Random::new(1));
     let mut changed = 0;
     for _ in 0..2_000 {
-        let (good, sent) = (good_record(&mut one), record_to_send(&mut other));
+        let good = Fields::of(&good_record(&mut one));
+        let sent = fields_to_send(&mut other, Unit::Hundredths);
         assert_eq!(send(&mut started(), &sent), 0);
         let refusal = send(&mut started(), &good);
         assert_eq!(refusal, if good == sent { 0 } else { 30 });
@@ -221,17 +224,17 @@ fn the_named_tape() {
         .map(|(_, record)| record)
         .collect();
     let long = "A".repeat(32);
-    assert_eq!(arrived, ["0 7 3 612 0", "4 7 3 612 3 A B", &format!("6 7 3 612 32 {long}")]);
+    assert_eq!(arrived, ["0 7 3 6120 0", "4 7 3 6120 3 A B", &format!("6 7 3 6120 32 {long}")]);
     let seen = coverage::names(&tape);
     assert!(seen.0.iter().all(|&count| count > 0), "{seen:?}");
 }
 
 /// A started ring's tape with these sends on channel 0.
-fn tape_of(records: &[Record]) -> Vec<u8> {
+fn tape_of(sends: &[Fields]) -> Vec<u8> {
     let (sender, receiver) = (NodeNumber(0), NodeNumber(0));
     let plan =
         [Command::AddNode { slots: 2 }, Command::AddChannel { sender, receiver }, Command::Start];
-    let sends = records.iter().map(|record| Command::Send(CHANNEL_0, *record));
+    let sends = sends.iter().map(|fields| Command::Send(CHANNEL_0, *fields));
     let mut bytes = Vec::new();
     for command in plan.into_iter().chain(sends) {
         let place = bytes.len();
@@ -242,8 +245,8 @@ fn tape_of(records: &[Record]) -> Vec<u8> {
 }
 
 /// What a send shows, as far as it is among the sights.
-fn seen(records: &[Record]) -> Vec<&'static str> {
-    let Names(counts) = coverage::names(&tape_of(records));
+fn seen(sends: &[Fields]) -> Vec<&'static str> {
+    let Names(counts) = coverage::names(&tape_of(sends));
     let sights = NAME_SIGHTS.iter().zip(counts);
     sights.flat_map(|(name, count)| (0..count).map(move |_| *name)).collect()
 }
@@ -254,23 +257,23 @@ fn coverage_of_names_is_exact() {
     let both = "30 for a blank first and last, in a longer name";
     let long = "30 for a name of 32 characters";
     let fault = "14 for a name with a blank end, where 30 applies too";
-    assert_eq!(seen(&[record_named(b" A")]), [first]);
-    assert_eq!(seen(&[record_named(b"A ")]), [last]);
-    assert_eq!(seen(&[record_named(b" A ")]), [both]);
-    assert_eq!(seen(&[record_named(b"  ")]), [both]);
-    assert_eq!(seen(&[record_named(b" ")]), ["30 for a name of one blank"]);
+    assert_eq!(seen(&[fields_named(b" A")]), [first]);
+    assert_eq!(seen(&[fields_named(b"A ")]), [last]);
+    assert_eq!(seen(&[fields_named(b" A ")]), [both]);
+    assert_eq!(seen(&[fields_named(b"  ")]), [both]);
+    assert_eq!(seen(&[fields_named(b" ")]), ["30 for a name of one blank"]);
     assert_eq!(seen(&[ending_in(b' ')]), [last, long]);
-    assert_eq!(seen(&[record_named(b" \x7F")]), [fault]);
-    assert_eq!(seen(&[record_named(b"A\x7F")]), [""; 0]);
-    assert_eq!(seen(&[Record { length: 1, ..record_named(b"A ") }]), [""; 0]);
-    assert_eq!(seen(&[Record { length: 33, ..ending_in(b' ') }]), [""; 0]);
-    assert_eq!(seen(&[Record { temperature: 1201, ..record_named(b" ") }]), [""; 0]);
-    assert_eq!(seen(&[record_named(b"")]), ["0 for an empty name"]);
+    assert_eq!(seen(&[fields_named(b" \x7F")]), [fault]);
+    assert_eq!(seen(&[fields_named(b"A\x7F")]), [""; 0]);
+    assert_eq!(seen(&[Fields { length: 1, ..fields_named(b"A ") }]), [""; 0]);
+    assert_eq!(seen(&[Fields { length: 33, ..ending_in(b' ') }]), [""; 0]);
+    assert_eq!(seen(&[Fields { temperature: 1201, ..fields_named(b" ") }]), [""; 0]);
+    assert_eq!(seen(&[fields_named(b"")]), ["0 for an empty name"]);
     assert_eq!(seen(&[ending_in(b'A')]), ["0 for a name of 32 characters"]);
-    assert_eq!(seen(&[record_named(b"A B")]), ["0 for a name with a blank inside only"]);
-    assert_eq!(seen(&[record_named(b"A")]), [""; 0]);
+    assert_eq!(seen(&[fields_named(b"A B")]), ["0 for a name with a blank inside only"]);
+    assert_eq!(seen(&[fields_named(b"A")]), [""; 0]);
     let before_15 = "30 with a record offered, where 15 applies too";
-    assert_eq!(seen(&[record_named(b"A"), record_named(b"A ")]), [last, before_15]);
-    assert_eq!(seen(&[record_named(b"A"), record_named(b"AB")]), [""; 0]);
+    assert_eq!(seen(&[fields_named(b"A"), fields_named(b"A ")]), [last, before_15]);
+    assert_eq!(seen(&[fields_named(b"A"), fields_named(b"AB")]), [""; 0]);
     assert_eq!(coverage::names(&[0x12; listing::TAPE_LIMIT + 1]), Names::default());
 }

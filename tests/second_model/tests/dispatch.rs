@@ -2,7 +2,7 @@
 //! what it says of every ring, on rings of drawn tapes.
 
 use second_model::dispatch::Dispatched;
-use second_model::generate::{record_named, record_to_send, Random, Tapes};
+use second_model::generate::{fields_to_send, record_named, Random, Tapes};
 use second_model::listing::apply;
 use second_model::ring::*;
 use second_model::tape::{self, Command, Read};
@@ -35,7 +35,7 @@ fn make(ring: &mut Ring, calls: &str) {
         let number = word[1..].parse().unwrap();
         let call = match &word[..1] {
             "r" => Command::Receive(ChannelNumber(number)),
-            "s" => Command::Send(ChannelNumber(number), record_of(number)),
+            "s" => Command::Send(ChannelNumber(number), Fields::of(&record_of(number))),
             "e" => Command::Enter(NodeNumber(number)),
             _ => Command::Move(NodeNumber(number)),
         };
@@ -237,7 +237,8 @@ fn drawn_rings() {
 /// More requests and records, as many as are accepted.
 fn load(ring: &mut Ring, random: &mut Random) {
     for channel in (0..ring.channel_count).map(ChannelNumber) {
-        let _ = apply(ring, &Command::Send(channel, record_to_send(random)));
+        let unit = random.pick(&Unit::ALL);
+        let _ = apply(ring, &Command::Send(channel, fields_to_send(random, unit)));
         if random.percent(80) {
             let _ = apply(ring, &Command::Receive(channel));
         }

@@ -1,5 +1,5 @@
-//! Request N2 of document 02, "Temperature history for each batch": its worked
-//! cases, and every way in which a lent table can be wrong.
+//! Request N2 of document 02, "Temperature history for each batch", in hundredths:
+//! its worked cases, and every way in which a lent table can be wrong.
 
 use second_model::generate::record_named;
 use second_model::history::*;
@@ -52,10 +52,10 @@ fn full() -> History {
 fn a_first_reading() {
     let mut history = History::empty();
     assert_eq!(figures(&history, 7), None);
-    note_all(&mut history, 7, [612]);
-    assert_eq!(history.table()[0], row(7, &[612]));
+    note_all(&mut history, 7, [6120]);
+    assert_eq!(history.table()[0], row(7, &[6120]));
     assert_eq!(history.table()[1..], [Row::EMPTY; 127]);
-    assert_eq!(figures(&history, 7), Some((612, 612, 612)));
+    assert_eq!(figures(&history, 7), Some((6120, 6120, 6120)));
 }
 
 #[test]
@@ -71,9 +71,9 @@ fn the_oldest_makes_way() {
 #[test]
 fn the_lowest_is_not_kept_when_it_left() {
     let mut history = History::empty();
-    note_all(&mut history, 7, [-400]);
+    note_all(&mut history, 7, [-4000]);
     note_all(&mut history, 7, [0; 23]);
-    assert_eq!(figures(&history, 7), Some((-400, 0, -400)));
+    assert_eq!(figures(&history, 7), Some((-4000, 0, -4000)));
     note_all(&mut history, 7, [5]);
     assert_eq!(figures(&history, 7), Some((0, 5, 5)));
 }
@@ -81,9 +81,9 @@ fn the_lowest_is_not_kept_when_it_left() {
 #[test]
 fn the_highest_is_not_kept_when_it_left() {
     let mut history = History::empty();
-    note_all(&mut history, 7, [1200]);
+    note_all(&mut history, 7, [12000]);
     note_all(&mut history, 7, [-3; 23]);
-    assert_eq!(figures(&history, 7), Some((-3, 1200, 1131)));
+    assert_eq!(figures(&history, 7), Some((-3, 12000, 11931)));
     note_all(&mut history, 7, [-3]);
     assert_eq!(figures(&history, 7), Some((-3, -3, -72)));
 }
@@ -91,8 +91,8 @@ fn the_highest_is_not_kept_when_it_left() {
 #[test]
 fn thousands_of_readings() {
     let mut history = History::empty();
-    note_all(&mut history, 7, [1200; 5000]);
-    assert_eq!(figures(&history, 7), Some((1200, 1200, 28800)));
+    note_all(&mut history, 7, [12000; 5000]);
+    assert_eq!(figures(&history, 7), Some((12000, 12000, 288_000)));
 }
 
 #[test]
@@ -137,9 +137,9 @@ fn a_bad_record_comes_before_29() {
     let long = Record { length: 33, ..record(129, 0) };
     let blank = Record { name: [0; 32], ..record(129, 0) };
     assert_eq!(note(&mut history, 0, 0), 11);
-    assert_eq!(note(&mut history, 0, 1201), 11);
-    assert_eq!(note(&mut history, 129, 1201), 12);
-    assert_eq!(note(&mut history, 129, -401), 12);
+    assert_eq!(note(&mut history, 0, 12001), 11);
+    assert_eq!(note(&mut history, 129, 12001), 12);
+    assert_eq!(note(&mut history, 129, -4001), 12);
     assert_eq!(note_record(&mut history, &long), 13);
     assert_eq!(note_record(&mut history, &blank), 14);
     assert_eq!(note(&mut history, 129, 0), 29);
@@ -182,11 +182,11 @@ fn a_bad_row() {
         counted(256 + 24, row(7, &[1; 24])),
         counted(1, row(7, &[1, 1])),
         counted(23, row(7, &[1; 24])),
-        row(7, &[1201]),
-        row(7, &[-401]),
+        row(7, &[12001]),
+        row(7, &[-4001]),
         row(7, &[i16::MIN]),
-        row(7, &Vec::from_iter(1178..=1201)),
-        row(u32::MAX, &[0, -401]),
+        row(7, &Vec::from_iter(11978..=12001)),
+        row(u32::MAX, &[0, -4001]),
         lost(row(7, &[5])),
         lost(counted(0, row(7, &[5]))),
         lost(counted(0, row(7, &[0, 0, 5]))),
@@ -209,8 +209,8 @@ fn a_good_row() {
         Row::EMPTY,
         row(1, &[0]),
         row(u32::MAX, &[0; 24]),
-        row(7, &[-400; 24]),
-        row(7, &[1200; 23]),
+        row(7, &[-4000; 24]),
+        row(7, &[12000; 23]),
         row(7, &[1, 0, 0, 2, 0]),
     ];
     for good in good {

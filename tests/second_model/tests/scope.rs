@@ -1,7 +1,7 @@
 //! The worked cases of document 01: its listing, its turn case, P1 to P10, and
 //! what it says of runs, checked on generated tapes.
 
-use second_model::generate::{self, record_named, Tapes};
+use second_model::generate::{self, fields_named, record_named, Tapes};
 use second_model::listing::{self, apply};
 use second_model::ring::*;
 use second_model::tape::{self, Command, Read};
@@ -41,7 +41,7 @@ fn the_listing() {
     tape.extend([0x22, 0x01, 0x23, 0x01, 0x23, 0x01]);
     assert_eq!(tape, generate::listing_tape());
     let expected = "1 10 0\n2 10 0\n3 11 0\n4 12 0\n5 20 0\n6 20 10\n7 22 0\n8 23 0\n9 21 0\n\
-                    10 22 0\n11 23 0 delivered 0 7 3 612 2 A1\n12 23 19\nend 10 2\n";
+                    10 22 0\n11 23 0 delivered 0 7 3 6120 2 A1\n12 23 19\nend 10 2\n";
     assert_eq!(listing_of(&tape), expected);
 }
 
@@ -58,8 +58,8 @@ fn listings_at_the_edges() {
 #[test]
 fn a_delivery_with_an_empty_name_and_a_negative_temperature() {
     let mut ring = started(&[2], &[(0, 0)]);
-    let record = Record { temperature: -400, ..record_named(b"") };
-    ring.send(channel(0), &record).unwrap();
+    let fields = Fields { temperature: -400, ..fields_named(b"") };
+    ring.send(channel(0), &fields).unwrap();
     ring.receive(channel(0)).unwrap();
     for _ in 0..2 {
         ring.enter_at(node(0)).unwrap();
@@ -71,7 +71,7 @@ fn a_delivery_with_an_empty_name_and_a_negative_temperature() {
         Command::AddNode { slots: 2 },
         Command::AddChannel { sender: node(0), receiver: node(0) },
         Command::Start,
-        Command::Send(channel(0), record),
+        Command::Send(channel(0), fields),
         Command::Receive(channel(0)),
         Command::Enter(node(0)),
         Command::Move(node(0)),
@@ -84,7 +84,7 @@ fn a_delivery_with_an_empty_name_and_a_negative_temperature() {
         tape.resize(place + command.width(), 0);
         tape::write(&command, &mut tape, place).unwrap();
     }
-    assert!(listing_of(&tape).contains("\n9 23 0 delivered 0 7 3 -400 0\nend 9 0\n"));
+    assert!(listing_of(&tape).contains("\n9 23 0 delivered 0 7 3 -4000 0\nend 9 0\n"));
 }
 
 /// "Turn: slots 1, 2, 1; channels 0, 1, 2 all sent from node 2, received at 0,
@@ -161,27 +161,29 @@ fn every_entry_of_the_hop_table() {
     }
 }
 
+/// 02, N5: "P8 and P9 are about command 21 from then on."
 #[test]
 fn p6_to_p9_records() {
-    let long = record_named(&[b'x'; 32]);
-    let temperature = |temperature| Record { temperature, ..record_named(b"A1") };
+    let long = fields_named(&[b'x'; 32]);
+    let temperature = |temperature| Fields { temperature, ..fields_named(b"A1") };
     let rows = [
         (long, Ok(())),
-        (Record { length: 33, ..long }, Err(Refusal::NameTooLong)),
+        (Fields { length: 33, ..long }, Err(Refusal::NameTooLong)),
         (temperature(1200), Ok(())),
         (temperature(-400), Ok(())),
         (temperature(1201), Err(Refusal::TemperatureOutOfRange)),
         (temperature(-401), Err(Refusal::TemperatureOutOfRange)),
-        (record_named(b""), Ok(())),
-        (record_named(b"~ ~"), Ok(())),
-        (record_named(b"\x1f"), Err(Refusal::NameWrong)),
-        (record_named(b"\x7f"), Err(Refusal::NameWrong)),
-        (Record { length: 1, ..record_named(b"A1") }, Err(Refusal::NameWrong)),
-        (Record { length: 3, ..record_named(b"A1") }, Err(Refusal::NameWrong)),
-        (Record { number: BatchNumber(0), ..long }, Err(Refusal::BatchNumberZero)),
+        (fields_named(b""), Ok(())),
+        (fields_named(b"~ ~"), Ok(())),
+        (fields_named(b"\x1f"), Err(Refusal::NameWrong)),
+        (fields_named(b"\x7f"), Err(Refusal::NameWrong)),
+        (Fields { length: 1, ..fields_named(b"A1") }, Err(Refusal::NameWrong)),
+        (Fields { length: 3, ..fields_named(b"A1") }, Err(Refusal::NameWrong)),
+        (Fields { number: BatchNumber(0), ..long }, Err(Refusal::BatchNumberZero)),
     ];
-    for (record, answer) in rows {
-        assert_eq!(started(&[2], &[(0, 0)]).send(channel(0), &record), answer, "{record:?}");
+    for (fields, answer) in rows {
+        assert_eq!(fields.unit, Unit::Tenths);
+        assert_eq!(started(&[2], &[(0, 0)]).send(channel(0), &fields), answer, "{fields:?}");
     }
 }
 
@@ -238,7 +240,7 @@ fn a_taken_message_waits_for_nothing() {
 fn a_same_node_record_goes_round_twice() {
     for n in 1..=16u8 {
         let mut ring = started(&vec![2; n as usize], &[(n / 2, n / 2)]);
-        ring.send(channel(0), &record_named(b"A1")).unwrap();
+        ring.send(channel(0), &fields_named(b"A1")).unwrap();
         ring.receive(channel(0)).unwrap();
         let mut moves = 0;
         while ring.deliveries == 0 {
@@ -256,7 +258,7 @@ fn the_count_of_deliveries_stops() {
     let mut ring = started(&[2], &[(0, 0)]);
     ring.deliveries = u32::MAX - 1;
     for _ in 0..3 {
-        ring.send(channel(0), &record_named(b"A1")).unwrap();
+        ring.send(channel(0), &fields_named(b"A1")).unwrap();
         ring.receive(channel(0)).unwrap();
         for _ in 0..2 {
             ring.enter_at(node(0)).unwrap();
@@ -293,7 +295,7 @@ fn questions() {
     assert_eq!(ring.hops_left(channel(0)), Ok(2));
     ring.move_at(node(0)).unwrap();
     assert_eq!(ring.hops_left(channel(0)), Ok(1));
-    ring.send(channel(0), &record_named(b"A1")).unwrap();
+    ring.send(channel(0), &fields_named(b"A1")).unwrap();
     assert_eq!(ring.hops_left(channel(0)), Ok(1));
     ring.enter_at(node(1)).unwrap();
     assert_eq!(ring.hops_left(channel(0)), Ok(1));
@@ -326,7 +328,9 @@ fn follow(tape: &[u8]) {
         assert!(ring.sound());
         match (&answer, &command) {
             (Err(_), _) => assert_eq!(ring, before),
-            (Ok(_), Command::Send(channel, record)) => offered[channel.0 as usize].push(*record),
+            (Ok(_), Command::Send(channel, fields)) => {
+                offered[channel.0 as usize].push(fields.record().unwrap())
+            }
             (Ok(Some(delivery)), _) => {
                 let at = delivery.channel.0 as usize;
                 assert_eq!(delivery.record, offered[at][delivered[at]]);

@@ -1,7 +1,7 @@
 //! "An unsound ring is 25, before all others, in every operation on a ring": a
 //! damaged ring for each clause of "A sound ring".
 
-use second_model::generate::record_named;
+use second_model::generate::{fields_named, record_named};
 use second_model::ring::*;
 
 fn node(number: u8) -> NodeNumber {
@@ -41,15 +41,15 @@ fn busy() -> Ring {
     ring.enter_at(node(0)).unwrap();
     ring.receive(channel(1)).unwrap();
     ring.move_at(node(0)).unwrap();
-    ring.send(channel(0), &record_named(b"first")).unwrap();
-    ring.send(channel(0), &record_named(b"not yet")).unwrap_err();
+    ring.send(channel(0), &fields_named(b"first")).unwrap();
+    ring.send(channel(0), &fields_named(b"not yet")).unwrap_err();
     // The request of channel 3 goes on before that of channel 0, which is then
     // taken at node 2 and answered.
     ring.move_at(node(1)).unwrap();
     ring.move_at(node(1)).unwrap();
-    ring.send(channel(0), &record_named(b"second")).unwrap();
+    ring.send(channel(0), &fields_named(b"second")).unwrap();
     ring.move_at(node(2)).unwrap();
-    ring.send(channel(4), &record_named(b"offer")).unwrap();
+    ring.send(channel(4), &fields_named(b"offer")).unwrap();
     ring
 }
 
@@ -93,8 +93,8 @@ fn assert_unsound(clause: &str, ring: &Ring) {
         after.start().err(),
         after.receive(channel(4)).err(),
         after.receive(channel(99)).err(),
-        after.send(channel(1), &record_named(b"A1")).err(),
-        after.send(channel(99), &Record::NONE).err(),
+        after.send(channel(1), &fields_named(b"A1")).err(),
+        after.send(channel(99), &Fields::of(&Record::NONE)).err(),
         after.enter_at(node(1)).err(),
         after.enter_at(node(99)).err(),
         after.move_at(node(3)).err(),
@@ -306,8 +306,8 @@ fn offers_and_marks() {
 fn records_good() {
     let faults: [fn(&mut Record); 7] = [
         |record| record.number = BatchNumber(0),
-        |record| record.temperature = 1201,
-        |record| record.temperature = -401,
+        |record| record.temperature = 12001,
+        |record| record.temperature = -4001,
         |record| record.length = 33,
         |record| record.name[0] = 0x1F,
         |record| record.name[4] = 0x7F,

@@ -1,31 +1,32 @@
 //! The reader and the writer of the command tape.
 
-use second_model::generate::{record_named, Random};
-use second_model::ring::{BatchNumber, ChannelNumber, NodeNumber, Record, Refusal};
+use second_model::generate::{fields_named, Random};
+use second_model::ring::{BatchNumber, ChannelNumber, Fields, NodeNumber, Refusal, Unit};
 use second_model::tape::{read, width, write, Command, Read};
 
-const COMMAND_BYTES: [u8; 8] = [0x10, 0x11, 0x12, 0x20, 0x21, 0x22, 0x23, 0x24];
+const COMMAND_BYTES: [u8; 9] = [0x10, 0x11, 0x12, 0x20, 0x21, 0x22, 0x23, 0x24, 0x25];
 
 /// "The writer takes every operand value": any at all.
 fn any_command(random: &mut Random) -> Command {
     let (one, two) = (random.byte(), random.byte());
-    match random.below(8) {
+    match random.below(9) {
         0 => Command::AddNode { slots: one },
         1 => Command::AddChannel { sender: NodeNumber(one), receiver: NodeNumber(two) },
         2 => Command::Start,
         3 => Command::Receive(ChannelNumber(one)),
-        4 => {
-            let record = Record {
+        4 | 5 => {
+            let fields = Fields {
+                unit: random.pick(&Unit::ALL),
                 number: BatchNumber(random.draw() as u32),
                 vessel: two,
                 temperature: random.draw() as i16,
                 length: random.byte(),
                 name: std::array::from_fn(|_| random.byte()),
             };
-            Command::Send(ChannelNumber(one), record)
+            Command::Send(ChannelNumber(one), fields)
         }
-        5 => Command::Enter(NodeNumber(one)),
-        6 => Command::Move(NodeNumber(one)),
+        6 => Command::Enter(NodeNumber(one)),
+        7 => Command::Move(NodeNumber(one)),
         _ => Command::Withdraw(ChannelNumber(one)),
     }
 }
@@ -67,17 +68,15 @@ fn read_then_written() {
 
 #[test]
 fn low_byte_first() {
-    let record = Record {
-        number: BatchNumber(0x0403_0201),
-        vessel: 5,
-        temperature: -400,
-        ..record_named(b"A1")
-    };
-    let mut bytes = [0xEE; 44];
-    assert_eq!(write(&Command::Send(ChannelNumber(9), record), &mut bytes, 1), Ok(43));
-    assert_eq!(bytes[..13], [0xEE, 0x21, 9, 1, 2, 3, 4, 5, 0x70, 0xFE, 2, b'A', b'1']);
-    assert!(bytes[13..43].iter().all(|&byte| byte == 0));
-    assert_eq!(bytes[43], 0xEE);
+    for (unit, byte) in [(Unit::Tenths, 0x21), (Unit::Hundredths, 0x25)] {
+        let number = BatchNumber(0x0403_0201);
+        let fields = Fields { unit, number, vessel: 5, temperature: -400, ..fields_named(b"A1") };
+        let mut bytes = [0xEE; 44];
+        assert_eq!(write(&Command::Send(ChannelNumber(9), fields), &mut bytes, 1), Ok(43));
+        assert_eq!(bytes[..13], [0xEE, byte, 9, 1, 2, 3, 4, 5, 0x70, 0xFE, 2, b'A', b'1']);
+        assert!(bytes[13..43].iter().all(|&byte| byte == 0));
+        assert_eq!(bytes[43], 0xEE);
+    }
 }
 
 #[test]

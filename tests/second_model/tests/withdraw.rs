@@ -2,7 +2,7 @@
 //! withdrawal leaves as it was, and what `coverage` sees of withdrawals.
 
 use second_model::coverage::{self, Withdrawals};
-use second_model::generate::{self, record_named, UNDONE_RECEIVES};
+use second_model::generate::{self, fields_named, record_named, UNDONE_RECEIVES};
 use second_model::listing::{self, apply};
 use second_model::ring::*;
 use second_model::tape::{self, Command};
@@ -31,7 +31,7 @@ fn call(word: &str) -> Command {
     let number = word[1..].parse().unwrap();
     match &word[..1] {
         "r" => Command::Receive(ChannelNumber(number)),
-        "s" => Command::Send(ChannelNumber(number), record_named(b"A1")),
+        "s" => Command::Send(ChannelNumber(number), fields_named(b"A1")),
         "e" => Command::Enter(NodeNumber(number)),
         "m" => Command::Move(NodeNumber(number)),
         _ => Command::Withdraw(ChannelNumber(number)),
@@ -183,7 +183,7 @@ fn the_named_tapes() {
     let kept = answers_from(&generate::kept_mark_tape(), 9);
     assert_eq!(kept, ["0", "0", "0", "0", "0", "0", "0", "0", "21", "0", "0"]);
     let undone = listing_of(&generate::undone_receives_tape());
-    assert!(undone.ends_with("\n2013 23 0 delivered 0 7 3 612 2 A1\nend 2013 0\n"));
+    assert!(undone.ends_with("\n2013 23 0 delivered 0 7 3 6120 2 A1\nend 2013 0\n"));
     assert!(undone.contains("\n9 24 0\n"));
 }
 

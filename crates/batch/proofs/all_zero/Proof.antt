@@ -25,7 +25,7 @@ loop-holds c = (omega arith, refl)
 loop-again : tie.Need-loop-again Inv-loop μ-loop
 loop-again c =
     let l = c .before .before .before .loop in
-    let turn = l .inv .1 ∙ ap (λ rest. l .zero && rest) (every-more isZero _ (l .i) (omega arith)) in (
+    let turn = l .inv .1 ∙ ap (λ rest. l .zero && rest) (every-more isZero _ (l .i) 0 (omega arith)) in (
       omega arith,
       ⊎-elim (λ w. rw (w .1) (turn-wrong (l .zero) _ _ turn (ne-eqb _ _ (w .0 .taken))))
           (λ w. rw (w .1) (turn-right (l .zero) _ _ turn (eq-eqb _ _ (w .0 .left)))) (c .if1 .came),

@@ -12,10 +12,10 @@ use Rattle.network.specs.Runs.{call, run}
 use Rattle.network.specs.Layout.{ringLimits}
 use Rattle.network.specs.BlankEnds.{oldOffer, oldCarried, sends, SendsAnswer, OldRings}
 
-pub sends-answer : SendsAnswer (λ before. run (call ringLimits) before fresh) (λ σ. σ) (sound ringLimits) (call ringLimits)
+pub sends-answer : SendsAnswer (λ before. run (call ringLimits) before fresh) (call ringLimits)
 unfolding sends sum next sendVerdict blankEnds blankAtEnd verdictOf batchGood tempGood nameLengthGood nameGood widthsGood nameCellsGood Calls.addNode Calls.addChannel Calls.start Calls.receive Calls.send
 sends-answer = refl
 
-pub old-rings : OldRings (λ before. run (call ringLimits) before fresh) (λ σ. σ) (sound ringLimits) (call ringLimits)
+pub old-rings : OldRings (λ σ. σ) (sound ringLimits) (call ringLimits)
 unfolding oldOffer oldCarried sound soundNode soundChannel soundAfter sum weigh allBelow hops next oneMore sendVerdict blankEnds blankAtEnd verdictOf goodRecord batchGood tempGood nameLengthGood nameGood widthsGood nameCellsGood arrival Calls.addNode Calls.addChannel Calls.start Calls.receive Calls.send Calls.enter Calls.move
 old-rings = record { offer-sound = refl; carried-sound = refl; offer-delivered = refl; carried-delivered = refl }

@@ -33,14 +33,14 @@ use Rattle.network.proofs.Promises.Demand.{ring-machine, ring-demand3, 
 use Rattle.network.proofs.Promises.Edges.{number-after}
 
 -- a sound ring, laid out, answers as it does apart from its layout
-held-answers : (σ : Network) (calls : List Call) → sound ringLimits σ ≡ true → answers callRing calls (hold σ) ≡ answers (call ringLimits) calls σ
+pub held-answers : (σ : Network) (calls : List Call) → sound ringLimits σ ≡ true → answers callRing calls (hold σ) ≡ answers (call ringLimits) calls σ
 held-answers σ calls ok =
     ring-demand3 .each (hold σ) calls (sound-hold σ ok) .same-answers
     ∙ ap (answers (call ringLimits) calls) (view-hold σ (sound-fits σ (facts ringLimits σ ok)))
 
-rows-answer : (rs : List Row) →
-    map (answered (λ before. run callRing before freshRing) hold soundRing callRing) rs
-    ≡ map (answered (λ before. run (call ringLimits) before fresh) (λ σ. σ) (sound ringLimits) (call ringLimits)) rs
+pub rows-answer : (rs : List Row) →
+    map (answered (λ before. run callRing before freshRing) callRing) rs
+    ≡ map (answered (λ before. run (call ringLimits) before fresh) (call ringLimits)) rs
 rows-answer [] = refl
 rows-answer (r ∷ rs) = λ i. number-after (r .before) (send (r .at) (r .sent)) i ∷ rows-answer rs i
 

@@ -63,7 +63,7 @@ asked : (q : Question) → ask freshRing view callRing q ≡ onLists q
 asked (starting slots ends) = number-after (plan slots ends) start
 asked (hopsFrom n p q) = refl
 asked (naming size) = refl
-asked (heating degrees) = refl
+asked (heating scale degrees) = refl
 asked (slotting slots) = number-after [] (addNode slots)
 asked (counting slots ends) = ap bound (fresh-run (plan slots ends))
 

@@ -72,7 +72,7 @@ module _ (c : tie.After-perform) where
   performed =
       let given = ring (begun command-read) in
       c .perform .ensures
-      ∙ ap (λ (a : RingCall). stepOf given (callRing (callOf a (command-read .read .result .command .«record»)) given)) (asked .ring-call .ensures)
+      ∙ ap (λ (a : RingCall). stepOf given (callRing (callOf a (command-read .read .result .command .fields)) given)) (asked .ring-call .ensures)
 
 told-requires : tie.Need-told-requires
 told-requires c κs = start (begun (command-read (c .before .before))) .pre

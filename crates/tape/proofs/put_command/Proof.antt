@@ -6,7 +6,7 @@ use native.Mathlib.Omega.{arith}
 use borrow.Author.Needs.{needs}
 use lib.ListN.{length, length-drop}
 use Rattle.wire.specs.Bytes.{little, overwritten}
-use Rattle.wire.specs.Record.{recordBytes}
+use Rattle.wire.specs.Record.{fieldBytes}
 use Rattle.wire.proofs.Buffer.{tail, next}
 use Rattle.tape.specs.Shape.{widthOf, bytesWith}
 use Rattle.tape.proofs.put_command.Statement.{statement}
@@ -46,15 +46,15 @@ two-bytes c =
     next _ _ _ (little 1 (p .code) ++ little 1 (p .first)) (little 1 (p .second)) (pair .put-pair2 .ensures) (put .put-u82 .ensures)
     ∙ rw (told .enum-told4 .given .1)
 
-byte-and-record : tie.Need-returns-5
+byte-and-fields : tie.Need-returns-5
 unfolding little bytesWith
-byte-and-record c =
+byte-and-fields c =
     let put = c .before .before in
     let pair = put .before .before .before .before in
     let told = pair .before .before in
     let a = told .before .before .before .args in
-    next _ _ _ (little 1 (a .parts .code) ++ little 1 (a .parts .first)) (recordBytes (a .«record»)) (pair .put-pair3 .ensures)
-    (put .put-record .ensures)
+    next _ _ _ (little 1 (a .parts .code) ++ little 1 (a .parts .first)) (fieldBytes (a .sent)) (pair .put-pair3 .ensures)
+    (put .put-fields .ensures)
     ∙ rw (told .enum-told5 .given .1)
 
 pub put-command-spec : {M : Type 1} → statement M
@@ -72,4 +72,4 @@ put-command-spec =
     (λ c. omega (arith, room-42 (c .before .before .before .before))) (λ c. omega (arith, room-42 (c .before .before .before .before)))
     (λ c. search needs)
     (λ c κs. let pair = c .before .before .before in rw (tail _ 2, length-drop) (omega (arith, room-42 (pair .before .before))))
-    unknown (λ c. search needs) bare (λ c. search needs) byte (λ c. search needs) two-bytes (λ c. search needs) byte-and-record)
+    unknown (λ c. search needs) bare (λ c. search needs) byte (λ c. search needs) two-bytes (λ c. search needs) byte-and-fields)

@@ -6,14 +6,14 @@ use native.Mathlib.Omega.{arith}
 use borrow.Author.Needs.{needs}
 use borrow.Author.Tests.{lt-ltb, le-ltb, eq-eqb}
 use lib.ListN.{length, getD, drop, length-drop}
-use Rattle.batch.specs.declared.BatchRecord.{BatchRecord}
+use Rattle.batch.specs.declared.sending.Fields.{Fields}
 use Rattle.wire.specs.Bytes.{numberAt}
-use Rattle.wire.specs.Record.{recordIn}
+use Rattle.wire.specs.Record.{fieldsIn}
 use Rattle.wire.proofs.Buffer.{tail}
 use Rattle.tape.specs.declared.Command.{Command}
 use Rattle.tape.specs.declared.Reading.{Reading}
 use Rattle.tape.specs.declared.Row as made
-use Rattle.tape.specs.Shape.{widthOf, recordWith}
+use Rattle.tape.specs.Shape.{widthOf, fieldsWith}
 use Rattle.tape.specs.Table.{Row, rowOf, rowWith, commandIn}
 use Rattle.tape.specs.Tape.{readAt, readRow, readNumber}
 use Rattle.tape.specs.RoundTrip.{found, WritesBack}
@@ -85,23 +85,23 @@ returns-4 c =
     answered (known w) _ (c .without4 .ensures ∙ sym (by-width w ∙ row-cut (row w) _ _ (omega arith) cut))
 
 -- the command that was read is the row's
-abbrev read-command : tie.After-record-in → Command
+abbrev read-command : tie.After-fields-in → Command
 read-command c =
     let w = c .before .before .before .before in
-    record { action = w .before .row-in .result .action; «record» = c .record-in .result }
+    record { action = w .before .row-in .result .action; fields = c .fields-in .result }
 
-command-is : (c : tie.After-record-in) → let w = c .before .before .before .before in read-command c ≡ commandIn (row w) (rest w)
+command-is : (c : tie.After-fields-in) → let w = c .before .before .before .before in read-command c ≡ commandIn (row w) (rest w)
 unfolding commandIn
 command-is c =
     let w = c .before .before .before .before in
-    let record-read : c .record-in .result ≡ recordWith (row w .shape) (recordIn (drop 2 (rest w)))
-    = c .record-in .ensures
-    ∙ ap (λ (t : List ℕ). recordWith (w .before .row-in .result .shape) (recordIn (drop 2 t))) (tail (bytes (known w)) (place (known w)))
-    ∙ ap (λ (r : made.Row). recordWith (r .shape) (recordIn (drop 2 (rest w)))) (row-read w) in
-    ap (λ (r : made.Row). record { action = r .action; «record» = c .record-in .result }) (row-read w)
+    let fields-read : c .fields-in .result ≡ fieldsWith (row w .shape) (fieldsIn (drop 2 (rest w)))
+    = c .fields-in .ensures
+    ∙ ap (λ (t : List ℕ). fieldsWith (w .before .row-in .result .shape) (fieldsIn (drop 2 t))) (tail (bytes (known w)) (place (known w)))
+    ∙ ap (λ (r : made.Row). fieldsWith (r .shape) (fieldsIn (drop 2 (rest w)))) (row-read w) in
+    ap (λ (r : made.Row). record { action = r .action; fields = c .fields-in .result }) (row-read w)
     ∙ ap
-    (λ (x : BatchRecord). record { action = row w .action (numberAt 1 1 (rest w)) (numberAt 2 1 (rest w)); «record» = x })
-    record-read
+    (λ (x : Fields). record { action = row w .action (numberAt 1 1 (rest w)) (numberAt 2 1 (rest w)); fields = x })
+    fields-read
 
 returns-5 : tie.Need-returns-5
 returns-5 c =

@@ -10,7 +10,7 @@ unfolding rowOf find commands
 row-of-spec =
     tie.close
     (tie.spec (λ c κs. search needs) (λ c κs. search needs) (λ c κs. search needs) (λ c κs. search needs) (λ c κs. search needs)
-    (λ c κs. search needs) (λ c κs. search needs) (λ c κs. search needs) (λ c κs. search needs)
+    (λ c κs. search needs) (λ c κs. search needs) (λ c κs. search needs) (λ c κs. search needs) (λ c κs. search needs)
     (λ c. rw (c .with-shape .ensures, c .before .match .keys1))
     (λ c. rw (c .with-shape2 .ensures, c .before .match .keys2))
     (λ c. rw (c .with-shape3 .ensures, c .before .match .keys3))
@@ -19,4 +19,5 @@ row-of-spec =
     (λ c. rw (c .with-shape6 .ensures, c .before .match .keys6))
     (λ c. rw (c .with-shape7 .ensures, c .before .match .keys7))
     (λ c. rw (c .with-shape8 .ensures, c .before .match .keys8))
+    (λ c. rw (c .with-shape9 .ensures, c .before .match .keys9))
     (λ c. rw (c .no-row .ensures, unknown (c .before .before .args .code) (c .before .match .rest))))

@@ -8,7 +8,7 @@ use mir.Val.{Fits}
 use borrow.Author.Needs.{needs}
 use borrow.Author.Tests.{lt-ltb, le-ltb}
 use Rattle.wire.specs.Bytes.{overwritten}
-use Rattle.wire.specs.Record.{RecordFits}
+use Rattle.wire.specs.Record.{FieldsFit}
 use Rattle.wire.proofs.Buffer.{tail, lent}
 use Rattle.tape.specs.declared.Command.{Command}
 use Rattle.tape.specs.declared.Parts.{Parts}
@@ -40,11 +40,11 @@ module _ (c : tie.After-parts-of) where
   operands-fit : OperandsFit (command .action)
   operands-fit = subst (λ (p : Parts). (p .first < 256) × (p .second < 256)) (c .parts-of .ensures) (first-fits, second-fits)
 
-name-fits : (s : tie.Start) (i : ℕ) → Fits w8 (getD (s .args .command .«record» .name) i 0)
+name-fits : (s : tie.Start) (i : ℕ) → Fits w8 (getD (s .args .command .fields .name) i 0)
 name-fits s i = search needs
 
-record-fits : (s : tie.Start) → RecordFits (s .args .command .«record»)
-record-fits s = record {
+fields-fit : (s : tie.Start) → FieldsFit (s .args .command .fields)
+fields-fit s = record {
   batch = search needs;
   vessel = search needs;
   temperature = search needs;
@@ -67,11 +67,11 @@ module _ (w : tie.After-width-of) where
   unfolding width
   wide = w .width-of .ensures ∙ ap widthOf shaped
 
-  bytes-are : bytesWith (w .before .row-of .result .shape) (apart .parts-of .result) (command apart .«record») ≡ bytesOf (command apart)
+  bytes-are : bytesWith (w .before .row-of .result .shape) (apart .parts-of .result) (command apart .fields) ≡ bytesOf (command apart)
   unfolding bytesOf
   bytes-are =
-      ap (λ (s : Shape). bytesWith s (apart .parts-of .result) (command apart .«record»)) shaped
-      ∙ ap (λ (p : Parts). bytesWith (shapeOf (command apart .action)) p (command apart .«record»)) (apart .parts-of .ensures)
+      ap (λ (s : Shape). bytesWith s (apart .parts-of .result) (command apart .fields)) shaped
+      ∙ ap (λ (p : Parts). bytesWith (shapeOf (command apart .action)) p (command apart .fields)) (apart .parts-of .ensures)
 
 returns : tie.Need-returns
 unfolding writeAt afterWrite
@@ -99,7 +99,7 @@ returns-3 c =
     = rw (← (wide w), le-ltb _ _ (apart w .before .if1 .left), le-ltb _ _ (room .if2 .left)) in
     let buffer =
     lent (a .bytes .now) _ (bytesOf (a .command)) (a .place) (put .put-command .ensures ∙ ap (overwritten _ 0) (bytes-are w)) in
-    let again = reads-back (a .bytes .now) _ (a .place) (a .command) _ (operands-fit (apart w)) (record-fits (start (apart w))) answer buffer in
+    let again = reads-back (a .bytes .now) _ (a .place) (a .command) _ (operands-fit (apart w)) (fields-fit (start (apart w))) answer buffer in
     (answer, (buffer, (again, ap writeNumber answer)))
 
 pub write-spec : {M : Type 1} → statement M

@@ -1,10 +1,13 @@
 -- `tasks::send` meets its contract: each return carries what the tests showed to the law of its case. Assumes nothing.
-use mathlib.Core.Path.{_≡_, sym, _∙_}
+use mathlib.Core.Path.{_≡_, sym, ap, _∙_}
 use borrow.Author.Needs.{needs}
 use Rattle.batch.specs.declared.BatchRecord.{BatchRecord}
 use Rattle.batch.specs.declared.Verdict.the-variants.{Good}
+use Rattle.batch.specs.declared.sending.Sent.{Sent}
 use Rattle.batch.specs.Good.{sendVerdict}
+use Rattle.batch.specs.Sending.{recordFrom}
 use Rattle.batch.proofs.Good.{no-refusal}
+use Rattle.batch.proofs.Temperatures.{sent-verdict, sent-record}
 use Rattle.network.specs.declared.Ring.{Ring}
 use Rattle.network.specs.Runs
 use Rattle.network.specs.Layout.{ringIn}
@@ -26,11 +29,22 @@ given c = let a = start c .args in ringIn (a .t1) (a .slots .now) (a .lines .now
 at-channel : (c : tie.After-enum-told) → AtChannel (given (c .before .before)) (start (c .before .before) .args .channel .0)
 at-channel c = channel-open _ (c .before .before .open .ensures) (c .before .match .keys2)
 
+-- the record that was made of the fields, and its verdict
+module _ (c : tie.After-make) where
+  abbrev there : tie.After-enum-told
+  there = c .before
+
+  abbrev made : BatchRecord
+  made = let a = start (there .before .before) .args in recordFrom (a .scale) (a .fields)
+
+  verdict-is : c .make .result .verdict ≡ sendVerdict made
+  verdict-is = ap (λ (s : Sent). s .verdict) (c .make .ensures) ∙ sent-verdict _ _
+
 returns-2 : tie.Need-returns-2
 returns-2 c =
     let told = c .before .before in
     let judged = told .before .before in
-    refuses _ (send-bad (at-channel (judged .before)) _ _ (sym (judged .judge-sent .ensures .0) ∙ told .verdict .given .1)) (c .refuse2 .ensures)
+    refuses _ (send-bad (at-channel (there judged)) (made judged) _ (sym (verdict-is judged) ∙ told .verdict .given .1)) (c .refuse2 .ensures)
 
 returns : tie.Need-returns
 returns c =
@@ -39,20 +53,20 @@ returns c =
 
 -- the record is good
 module _ (c : tie.After-struct-known) where
-  abbrev judged : tie.After-judge-sent
-  judged = c .before .before .before
-
-  abbrev there : tie.After-enum-told
-  there = judged .before
+  abbrev judged : tie.After-make
+  judged = c .before .before .before .before
 
   abbrev sent : BatchRecord
-  sent = start (there .before .before) .args .«record»
+  sent = made judged
 
   good : sendVerdict sent ≡ Good
-  good = sym (judged .judge-sent .ensures .0) ∙ no-refusal _ (c .before .before .match2 .keys2)
+  good = sym (verdict-is judged) ∙ no-refusal _ (c .before .before .before .match2 .keys2)
 
-  known : AtChannel (given (there .before .before)) (start (there .before .before) .args .channel .0)
-  known = at-channel there
+  goes-out : judged .make .result .«record» ≡ sent
+  goes-out = ap (λ (s : Sent). s .«record») (judged .make .ensures) ∙ sent-record _ _ good
+
+  known : AtChannel (given (there judged .before .before)) (start (there judged .before .before) .args .channel .0)
+  known = at-channel (there judged)
 
 element-copy-out-offered : tie.Need-element-copy-out-offered
 element-copy-out-offered c = channel-within (known c)
@@ -82,7 +96,7 @@ returns-4 c =
     let waits = answers .before .before .before in
     let free = waits .before .before in
     response-made _ _ (send-responds (known (fine free)) _ (good (fine free)) (free .if1 .left) (waits .if2 .taken))
-    (answers .respond .ensures)
+    (rw (goes-out (fine free)) at (answers .respond .ensures))
     (c .accept .ensures)
 
 -- it does not, and the record is offered
@@ -97,7 +111,7 @@ returns-5 c =
     let put = c .before in
     let unready = put .before .before in
     let free = unready .before .before in
-    rw (put .set-record .ensures)
+    rw (put .set-record .ensures, goes-out (fine free))
     (accepts _ (send-offered (known (fine free)) _ (good (fine free)) (free .if1 .left) (unready .if2 .left)) (c .accept2 .ensures))
 
 pub send-spec : {M : Type 1} → statement M

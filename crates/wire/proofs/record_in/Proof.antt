@@ -1,25 +1,17 @@
--- `wire::record_in` meets its contract: field by field. Assumes nothing.
-use borrow.Author.Needs.{needs, sfits-of}
+-- `wire::record_in` meets its contract: the record of the fields, with their temperature. Assumes nothing.
+use mathlib.Core.Path.{ap, _∙_}
+use mir.Syntax.{w16}
 use mir.Facts.{toZ-ofZ}
-use Rattle.wire.specs.Record.{recordIn}
+use borrow.Author.Needs.{needs}
+use Rattle.batch.specs.Sending.{sameNumbers}
 use Rattle.wire.proofs.record_in.Statement.{statement}
 use Rattle.wire.proofs.record_in.Tie as tie
 
 returns : tie.Need-returns
-unfolding recordIn
 returns c =
-    let batch = c .before .before .before .before in
-    rw (
-      batch .u32-at .ensures,
-      c .before .before .before .u8-at .ensures,
-      toZ-ofZ (sfits-of (c .before .before .i16-at .ok)),
-      c .before .before .i16-at .ensures,
-      c .before .u8-at2 .ensures,
-      c .name-at .ensures,
-    )
+    let read = c .before .before in
+    let held = toZ-ofZ {w = w16} {z = read .fields-in .result .temperature} (record { sfits = c .before .struct-told .given .1 .1 .0 .1 }) in
+    rw held at (c .record-with .ensures) ∙ ap sameNumbers (read .fields-in .ensures)
 
 pub record-in-spec : {M : Type 1} → statement M
-record-in-spec =
-    tie.close
-    (tie.spec (λ c κs. search needs) (λ c κs. search needs) (λ c κs. search needs) (λ c κs. search needs)
-    (λ c κs. search needs) returns)
+record-in-spec = tie.close (tie.spec (λ c κs. search needs) (λ c κs. search needs) returns)

@@ -1,10 +1,11 @@
 //! compare PROGRAM [TAPES] [SEED]: runs PROGRAM, a tape program of document 01,
 //! on generated tapes (standard input) and compares what it prints, byte by
 //! byte, with the model's listing. Ends with failure on a difference, when a
-//! refusal number that a tape can reach or a kind of name was not seen, or with
-//! too few deliveries or withdrawals.
+//! refusal number that a tape can reach, a kind of name or a kind of temperature
+//! was not seen, or with too few deliveries, withdrawals or sends in either unit.
 
-use second_model::coverage::{self, Names, Withdrawals, NAME_SIGHTS};
+use second_model::coverage::{self, Names, Temperatures, Withdrawals};
+use second_model::coverage::{NAME_SIGHTS, TEMPERATURE_SIGHTS};
 use second_model::generate::{Random, Tapes, UNDONE_RECEIVES};
 use second_model::listing::{self, Totals, TAPE_LIMIT};
 use second_model::ring::REFUSAL_NUMBERS;
@@ -26,6 +27,10 @@ const WITHDRAWALS_FLOOR: u64 = 8;
 const NOT_WITHDRAWN_EVERY: u64 = 2;
 /// As many 30 as drawn tapes, in the mean.
 const BLANK_ENDS_FLOOR: u64 = 1;
+/// So many accepted sends in tenths for each drawn tape, and in hundredths.
+const SENDS_FLOOR: u64 = 10;
+/// At least one of so many drawn tapes delivers records of both units.
+const BOTH_DELIVERED_EVERY: u64 = 3;
 /// Every so many tapes, and with tapes at the limit, the input arrives in pieces.
 const PIECES_EVERY: usize = 40;
 /// A program that takes longer for one tape counts as different.
@@ -33,14 +38,44 @@ const PATIENCE: Duration = Duration::from_secs(60);
 /// After so many differences no further tape is tried.
 const DIFFERENCES_LIMIT: usize = 5;
 
+/// What tapes show (`coverage`).
+#[derive(Default)]
+struct Shown {
+    withdrawals: Withdrawals,
+    names: Names,
+    temperatures: Temperatures,
+}
+
+impl Shown {
+    fn of(tape: &[u8]) -> Shown {
+        Shown {
+            withdrawals: coverage::withdrawals(tape),
+            names: coverage::names(tape),
+            temperatures: coverage::temperatures(tape),
+        }
+    }
+
+    fn add(&mut self, other: &Shown) {
+        self.withdrawals.add(&other.withdrawals);
+        self.names.add(&other.names);
+        self.temperatures.add(&other.temperatures);
+    }
+
+    /// How often each thing was seen that some tape has to show.
+    fn sights(&self) -> impl Iterator<Item = (&'static str, u32)> + '_ {
+        let names = NAME_SIGHTS.into_iter().zip(self.names.0);
+        let temperatures = TEMPERATURE_SIGHTS.into_iter().zip(self.temperatures.sights);
+        names.chain(temperatures)
+    }
+}
+
 struct Sums {
     tapes: u64,
     too_long: u64,
     commands: u64,
     deliveries: u64,
     refusals: [u64; REFUSAL_NUMBERS],
-    withdrawals: Withdrawals,
-    names: Names,
+    shown: Shown,
     differences: usize,
 }
 
@@ -52,13 +87,12 @@ impl Sums {
             commands: 0,
             deliveries: 0,
             refusals: [0; REFUSAL_NUMBERS],
-            withdrawals: Withdrawals::default(),
-            names: Names::default(),
+            shown: Shown::default(),
             differences: 0,
         }
     }
 
-    fn add(&mut self, totals: &Totals, withdrawals: &Withdrawals, names: &Names) {
+    fn add(&mut self, totals: &Totals, shown: &Shown) {
         self.tapes += 1;
         self.too_long += totals.too_long as u64;
         self.commands += (totals.accepted + totals.refused) as u64;
@@ -66,8 +100,7 @@ impl Sums {
         for (sum, &count) in self.refusals.iter_mut().zip(&totals.refusals) {
             *sum += count as u64;
         }
-        self.withdrawals.add(withdrawals);
-        self.names.add(names);
+        self.shown.add(shown);
     }
 }
 
@@ -119,12 +152,12 @@ fn compare_all(program: &OsStr, tapes: &Tapes, count: usize) -> Sums {
 fn compare_one(program: &OsStr, index: usize, tape: &[u8], sums: &Mutex<Sums>) {
     let mut expected = Vec::new();
     let totals = listing::run(tape, &mut expected);
-    let (withdrawals, names) = (coverage::withdrawals(tape), coverage::names(tape));
+    let shown = Shown::of(tape);
     let at_the_limit = (TAPE_LIMIT..=TAPE_LIMIT + 1).contains(&tape.len());
     let in_pieces = at_the_limit || index % PIECES_EVERY == 1;
     let result = run_program(program, tape, in_pieces, expected.len());
     let mut sums = sums.lock().unwrap();
-    sums.add(&totals, &withdrawals, &names);
+    sums.add(&totals, &shown);
     let difference = match result {
         Ok(printed) if printed == expected => return,
         Ok(printed) => first_difference(&expected, &printed),
@@ -250,10 +283,14 @@ fn print_sums(sums: &Sums, seed: u64) {
         }
     }
     let Withdrawals { accepted, marks_cleared, marks_kept, freed_moves, most_undone } =
-        sums.withdrawals;
+        sums.shown.withdrawals;
     println!("{accepted} withdrawals: marks cleared {marks_cleared}, marks kept {marks_kept}");
     println!("moves freed {freed_moves}; most receives undone before a delivery {most_undone}");
-    for (name, count) in NAME_SIGHTS.iter().zip(sums.names.0) {
+    let Temperatures { accepted: [tenths, hundredths], both_delivered, .. } =
+        sums.shown.temperatures;
+    println!("{tenths} sends in tenths accepted, {hundredths} in hundredths");
+    println!("{both_delivered} tapes deliver records of both");
+    for (name, count) in sums.shown.sights() {
         println!("{name}: {count}");
     }
 }
@@ -277,18 +314,9 @@ fn faults(sums: &Sums, drawn: u64) -> Vec<String> {
             faults.push(format!("refusal {number} was never seen"));
         }
     }
-    for (what, count, floor) in [
-        ("deliveries", sums.deliveries, drawn * DELIVERIES_FLOOR),
-        ("withdrawals", sums.withdrawals.accepted as u64, drawn * WITHDRAWALS_FLOOR),
-        ("refusals 27", sums.refusals[27], drawn / NOT_WITHDRAWN_EVERY),
-        ("refusals 28", sums.refusals[28], drawn / NOT_WITHDRAWN_EVERY),
-        ("refusals 30", sums.refusals[30], drawn * BLANK_ENDS_FLOOR),
-    ] {
-        if count < floor {
-            faults.push(format!("{count} {what} are fewer than {floor}"));
-        }
-    }
-    let Withdrawals { marks_cleared, marks_kept, freed_moves, most_undone, .. } = sums.withdrawals;
+    faults.extend(below_floors(sums, drawn));
+    let Withdrawals { marks_cleared, marks_kept, freed_moves, most_undone, .. } =
+        sums.shown.withdrawals;
     for (missing, fault) in [
         (marks_cleared == 0, "no withdrawal cleared a turn mark"),
         (marks_kept == 0, "no withdrawal took the first out of a line that kept its mark"),
@@ -299,8 +327,26 @@ fn faults(sums: &Sums, drawn: u64) -> Vec<String> {
             faults.push(fault.to_string());
         }
     }
-    let sights = NAME_SIGHTS.iter().zip(sums.names.0);
+    let never = sums.shown.sights().filter(|(_, count)| *count == 0);
+    faults.extend(never.map(|(name, _)| format!("never: {name}")));
     faults
-        .extend(sights.filter(|(_, count)| *count == 0).map(|(name, _)| format!("never: {name}")));
-    faults
+}
+
+/// What was seen less often than so many drawn tapes have to show it.
+fn below_floors(sums: &Sums, drawn: u64) -> Vec<String> {
+    let Shown { withdrawals, temperatures, .. } = &sums.shown;
+    let [tenths, hundredths] = temperatures.accepted.map(u64::from);
+    let both = u64::from(temperatures.both_delivered);
+    let floors = [
+        ("deliveries", sums.deliveries, drawn * DELIVERIES_FLOOR),
+        ("withdrawals", u64::from(withdrawals.accepted), drawn * WITHDRAWALS_FLOOR),
+        ("refusals 27", sums.refusals[27], drawn / NOT_WITHDRAWN_EVERY),
+        ("refusals 28", sums.refusals[28], drawn / NOT_WITHDRAWN_EVERY),
+        ("refusals 30", sums.refusals[30], drawn * BLANK_ENDS_FLOOR),
+        ("sends in tenths", tenths, drawn * SENDS_FLOOR),
+        ("sends in hundredths", hundredths, drawn * SENDS_FLOOR),
+        ("tapes with deliveries in both units", both, 1 + drawn / BOTH_DELIVERED_EVERY),
+    ];
+    let below = floors.into_iter().filter(|(_, count, floor)| count < floor);
+    below.map(|(what, count, floor)| format!("{count} {what} are fewer than {floor}")).collect()
 }

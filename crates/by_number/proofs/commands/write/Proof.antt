@@ -3,27 +3,27 @@ use mathlib.Core.Path.{_≡_, sym, ap, _∙_}
 use Prim.Native.Nat.{ℕ}
 use mathlib.Core.List.{List}
 use borrow.Author.Needs.{needs}
-use Rattle.batch.specs.declared.BatchRecord.{BatchRecord}
+use Rattle.batch.specs.declared.sending.Fields.{Fields}
 use Rattle.tape.specs.declared.Action.{Action}
 use Rattle.tape.specs.declared.Writing.{Writing}
 use Rattle.tape.specs.Tape.{writeAt, afterWrite}
 use Rattle.by_number.specs.declared.commands.Wanted.{Wanted}
 use Rattle.by_number.specs.declared.commands.Wanted.the-variants.{Known}
-use Rattle.by_number.specs.Commands.{writingIn, withRecord, writes, leaves}
-use Rattle.by_number.specs.Records.{recordOf}
+use Rattle.by_number.specs.Commands.{writingIn, withFields, writes, leaves}
+use Rattle.by_number.specs.Records.{fieldsFrom}
 use Rattle.by_number.proofs.commands.write.Statement.{statement}
 use Rattle.by_number.proofs.commands.write.Tie as tie
 
--- what `tape::write` answers and leaves, of the action that the command byte stands for and the record in the ring's form
-module _ (bytes : List ℕ) (place : ℕ) {wanted : Wanted} {a : Action} {x y : BatchRecord} {w : Writing}
-    (known : Known a ≡ wanted) (same : x ≡ y) (wrote : w ≡ writeAt bytes place (withRecord a x)) where
+-- what `tape::write` answers and leaves, of the action that the command byte stands for and the fields in the ring's form
+module _ (bytes : List ℕ) (place : ℕ) {wanted : Wanted} {a : Action} {x y : Fields} {w : Writing}
+    (known : Known a ≡ wanted) (same : x ≡ y) (wrote : w ≡ writeAt bytes place (withFields a x)) where
   answers : writingIn w ≡ writes wanted y bytes place
-  answers = ap writingIn wrote ∙ ap (λ (z : BatchRecord). writes (Known a) z bytes place) same
+  answers = ap writingIn wrote ∙ ap (λ (z : Fields). writes (Known a) z bytes place) same
       ∙ ap (λ (z : Wanted). writes z y bytes place) known
 
-  left : afterWrite w bytes place (withRecord a x) ≡ leaves wanted y bytes place
-  left = ap (λ (z : Writing). afterWrite z bytes place (withRecord a x)) wrote
-      ∙ ap (λ (z : BatchRecord). leaves (Known a) z bytes place) same ∙ ap (λ (z : Wanted). leaves z y bytes place) known
+  left : afterWrite w bytes place (withFields a x) ≡ leaves wanted y bytes place
+  left = ap (λ (z : Writing). afterWrite z bytes place (withFields a x)) wrote
+      ∙ ap (λ (z : Fields). leaves (Known a) z bytes place) same ∙ ap (λ (z : Wanted). leaves z y bytes place) known
 
 written : tie.Need-returns
 written c =
@@ -32,7 +32,7 @@ written c =
     let looked = chosen .before .before in
     let args = looked .before .before .before .args in
     let known = sym (chosen .wanted .given .1) ∙ looked .action-of .ensures in
-    let same = looked .before .record-of .ensures in (
+    let same = looked .before .fields-from .ensures in (
       c .writing-of .ensures ∙ answers (args .bytes .now) (args .place) known same (wrote .write .ensures .0),
       wrote .write .ensures .1 .0 ∙ left (args .bytes .now) (args .place) known same (wrote .write .ensures .0),
     )
@@ -42,8 +42,8 @@ unknown c =
     let looked = c .before .before in
     let args = looked .before .before .before .args in
     let none = sym (c .enum-told .given .1) ∙ looked .action-of .ensures in (
-      ap (λ (w : Wanted). writes w (recordOf (args .command .«record»)) (args .bytes .now) (args .place)) none,
-      ap (λ (w : Wanted). leaves w (recordOf (args .command .«record»)) (args .bytes .now) (args .place)) none,
+      ap (λ (w : Wanted). writes w (fieldsFrom (args .command .«record»)) (args .bytes .now) (args .place)) none,
+      ap (λ (w : Wanted). leaves w (fieldsFrom (args .command .«record»)) (args .bytes .now) (args .place)) none,
     )
 
 pub write-spec : {M : Type 1} → statement M
