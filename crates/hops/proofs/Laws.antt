@@ -1,15 +1,15 @@
 -- The laws of hops, for the theory of the ring: where hops lead, their bounds, and that a move brings a message one hop
 -- nearer. Any number of nodes. Each law follows from one fact: the least h is q - p ahead of p, else n + q - p round the
 -- ring. Assumes nothing.
-use mathlib.Core.Path.{_≡_, sym, _∙_, ap}
-use mathlib.Core.Bool.{Bool, true, false, cond}
+use mathlib.Core.Path.{_≡_, refl, sym, _∙_, ap}
+use mathlib.Core.Bool.{Bool, true, false}
 use mathlib.Core.Logic.{_⊎_, inl, inr}
 use Prim.Native.Nat.{ℕ, zero, suc, _+_, _-_, _%_, _<_, _≤_}
 use native.Mathlib.Nat.{mod-eq-of-lt, mod-eq-sub-mod, add-mod-left, mod-one}
 use native.Mathlib.Omega.{arith}
-use lib.Dec.{eqb, ltb, leb}
-use borrow.Author.Tests.{ltb-true, ltb-false, leb-true, eqb-true, eqb-false, lt-ltb, le-leb, eq-eqb, ne-eqb}
-use Rattle.hops.specs.Hops.{reaches, least, hops, LeastHops, next, sheetNodes, sheetHops}
+use lib.Dec.{eqb, ltb}
+use borrow.Author.Tests.{ltb-true, ltb-false, eqb-true, eqb-false, lt-ltb, eq-eqb, ne-eqb}
+use Rattle.hops.specs.Hops.{reaches, least, hops, LeastHops, next, hopsBetween, WorkedHops}
 use Rattle.numbers.proofs.Splits.{by-test}
 use Rattle.hops.proofs.CaseSplits.{by-case}
 
@@ -63,12 +63,6 @@ least-round n p q qp pn = record {
       let there : p + j - n ≡ q = sym (mod-eq-sub-mod past ∙ mod-eq-of-lt (omega arith)) ∙ e ∙ q-rest in
       omega arith);
 }
-
-pub hops-formula : (n p q : ℕ) → p < n → q < n → hops n p q ≡ cond (ltb p q) (q - p) (n + q - p)
-hops-formula n p q pn qn =
-    by-test (ltb p q)
-    (λ t. rw t (hops-is n p q _ (least-ahead n p q (ltb-true _ _ t) qn)))
-    (λ t. rw t (hops-is n p q _ (least-round n p q (ltb-false _ _ t) pn)))
 
 pub hops-ahead : (n p q : ℕ) → p < q → q < n → p + hops n p q ≡ q
 hops-ahead n p q pq qn = omega (arith, hops-is n p q _ (least-ahead n p q pq qn))
@@ -137,21 +131,37 @@ hops-step n p q pn qn far =
     (λ h. by-case (hops-cases n (next n p) q away qn) (λ g. omega arith) (λ g. omega (arith, far)))
     (λ h. by-case (hops-cases n (next n p) q away qn) (λ g. omega arith) (λ g. omega arith)))
 
--- The sheet: hops where it has the ring and both nodes, else 0.
+-- Whatever numbers are asked: hops between two nodes of the ring, else 0.
 
-pub on-sheet : (n p q : ℕ) → n ≤ sheetNodes → p < n → q < n → sheetHops n p q ≡ hops n p q
-unfolding sheetHops
-on-sheet n p q most pn qn = rw (le-leb _ _ most, lt-ltb _ _ pn, lt-ltb _ _ qn)
+pub hops-between : (n p q : ℕ) → p < n → q < n → hopsBetween n p q ≡ hops n p q
+unfolding hopsBetween
+hops-between n p q pn qn = rw (lt-ltb _ _ pn, lt-ltb _ _ qn)
 
-pub off-sheet : (n p q : ℕ) → (n ≤ sheetNodes → p < n → q < n → ⊥) → sheetHops n p q ≡ 0
-unfolding sheetHops
-off-sheet n p q none =
-    by-test (leb n sheetNodes)
-    (λ a.
+pub hops-beyond : (n p q : ℕ) → (p < n → q < n → ⊥) → hopsBetween n p q ≡ 0
+unfolding hopsBetween
+hops-beyond n p q none =
     by-test (ltb p n)
-    (λ b.
-    by-test (ltb q n)
-    (λ d. absurd (none (leb-true _ _ a) (ltb-true _ _ b) (ltb-true _ _ d)))
-    (λ d. rw (a, b, d)))
-    (λ b. rw (a, b)))
-    (λ a. rw a)
+    (λ b. by-test (ltb q n) (λ d. absurd (none (ltb-true _ _ b) (ltb-true _ _ d))) (λ d. rw (b, d)))
+    (λ b. rw b)
+
+-- no more than n
+pub hops-most : (n p q : ℕ) {r : ℕ} → r ≡ hopsBetween n p q → r ≤ n
+unfolding hopsBetween
+hops-most n p q said =
+    rw said
+    (by-test (ltb p n)
+    (λ b. by-test (ltb q n) (λ d. rw (b, d) (hops-to-n n p q (ltb-true _ _ b) (ltb-true _ _ d))) (λ d. rw (b, d) (omega arith)))
+    (λ b. rw b (omega arith)))
+
+-- and by the closed formula
+pub between-ahead : (n p q : ℕ) → p < q → q < n → hopsBetween n p q ≡ q - p
+between-ahead n p q pq qn = hops-between n p q (omega arith) qn ∙ hops-is n p q _ (least-ahead n p q pq qn)
+
+pub between-round : (n p q : ℕ) → q ≤ p → p < n → hopsBetween n p q ≡ n - p + q
+between-round n p q qp pn =
+    let order : n + q - p ≡ n - p + q = omega arith in
+    hops-between n p q pn (omega arith) ∙ hops-is n p q _ (least-round n p q qp pn) ∙ order
+
+pub worked-hops : WorkedHops
+unfolding hopsBetween hops
+worked-hops = refl

@@ -1,6 +1,3 @@
--- What belongs to no one function: the laws of hops, for other crates too; the marked examples; a table's rule and the
--- sheet's places, for the proof of the table.
+-- What belongs to no one function: the laws of hops, for other crates too, and a case split.
 pub mod Laws
-mod Rule
-mod Sheet
 mod CaseSplits

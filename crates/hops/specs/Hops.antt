@@ -1,9 +1,10 @@
 -- Hops on a ring of n nodes, in the words of document 01: the least h from 1 to n with p + h and q leaving the same
--- remainder by n. Any n, p and q; only the sheet at the end is limited to 16 nodes. Assumes nothing.
+-- remainder by n. Any n, p and q. Assumes nothing.
 use Prim.Native.Nat.{ℕ, zero, suc, _+_, _%_, _<_, _≤_}
 use mathlib.Core.Path.{_≡_}
 use mathlib.Core.Bool.{Bool, cond, _&&_}
-use lib.Dec.{eqb, ltb, leb}
+use mathlib.Core.List.{[], _∷_, map}
+use lib.Dec.{eqb, ltb}
 
 -- p + h and q leave the same remainder by n: h nodes after p stands q
 abbrev pub reaches : ℕ → ℕ → ℕ → ℕ → Bool
@@ -29,10 +30,14 @@ pub record LeastHops (n p q h : ℕ) : Type 0 where
 unfoldable pub next : ℕ → ℕ → ℕ
 next n p = cond (eqb (suc p) n) 0 (suc p)
 
--- the sheet has rings of 1 to 16 nodes
-abbrev pub sheetNodes : ℕ
-sheetNodes = 16
+-- hops from p to q where both are nodes of the ring, and 0 where p or q is n or more, as on the fitters' sheet
+unfoldable pub hopsBetween : ℕ → ℕ → ℕ → ℕ
+hopsBetween n p q = cond (ltb p n && ltb q n) (hops n p q) 0
 
--- the entry of the fitters' sheet: hops between two nodes of such a ring, and 0 where p or q is n or more
-unfoldable pub sheetHops : ℕ → ℕ → ℕ → ℕ
-sheetHops n p q = cond (leb n sheetNodes && ltb p n && ltb q n) (hops n p q) 0
+-- ---- worked: n, p and q, and the hops. The first three are P3 to P5
+abbrev pub WorkedHops : Type 0
+WorkedHops =
+    map (λ (a : ℕ × ℕ × ℕ). hopsBetween (a .0) (a .1) (a .2))
+    ((3, 2, 1) ∷ (3, 1, 1) ∷ (1, 0, 0) ∷ (32, 31, 0) ∷ (32, 0, 31) ∷ (32, 7, 7) ∷ (17, 3, 2) ∷ (255, 254, 254)
+    ∷ (16, 16, 0) ∷ (16, 0, 16) ∷ (0, 0, 0) ∷ [])
+    ≡ 2 ∷ 3 ∷ 1 ∷ 1 ∷ 31 ∷ 32 ∷ 16 ∷ 255 ∷ 0 ∷ 0 ∷ 0 ∷ []

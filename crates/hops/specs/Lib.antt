@@ -1,2 +1,2 @@
--- What the hop table means: hops by remainders, and the entries of the fitters' sheet.
+-- What hops between two nodes are: by remainders, and 0 where there is no such node.
 pub mod Hops

@@ -1,25 +1,20 @@
-// How many hops a message makes from one node of the ring to another, read off the hop table of the fitters' sheet.
-// The table's rule, by remainders, is the meaning of hops (specs/Hops.antt), and one computed test over all 4,096
-// entries shows that the table keeps it. Assumes nothing.
+// How many hops a message makes from one node of the ring to another. Their meaning is the rule of the fitters' sheet, by
+// remainders (specs/Hops.antt); here they are worked out by a formula. Any number of nodes that a byte holds. Assumes nothing.
 ghost use mathlib.Core.Path.{_≡_};
-ghost use Rattle.hops.specs.Hops.{sheetHops};
+ghost use Rattle.hops.specs.Hops.{hopsBetween};
 
-mod table;
+// The answer for a node that the ring does not have.
+const NO_NODE: u8 = 0;
 
-// The answer for a ring or a node that is not on the sheet.
-const OFF_SHEET: u8 = 0;
-
-// Hops from node p to node q on a ring of n nodes, as on the sheet.
+// Hops from node p to node q on a ring of n nodes: on to q where it lies ahead, else past the last node and round.
 pub fn hops(n: u8, p: u8, q: u8) -> u8
-    ensures { λ r. ⌜ r ≡ sheetHops n p q ⌝ }
+    ensures { λ r. ⌜ r ≡ hopsBetween n p q ⌝ }
 {
-    if n == 0 || 16 < n {
-        return OFF_SHEET;
+    if n <= p || n <= q {
+        return NO_NODE;
     }
-    if 16 <= p || 16 <= q {
-        return OFF_SHEET;
+    if p < q {
+        return q - p;
     }
-    let page = (n as usize) - 1;
-    let at = page * 256 + (p as usize) * 16 + (q as usize);
-    table::HOPS[at]
+    n - p + q
 }

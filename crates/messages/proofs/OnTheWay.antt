@@ -2,41 +2,22 @@
 -- the channel's phase it stands nowhere or on the way from its entry to its target. Assumes nothing.
 use Prim.Native.Nat.{ℕ, _≤_, _<_, min}
 use mathlib.Core.Path.{_≡_, refl}
-use mathlib.Core.Logic.{_≢_, ⊎-elim, inl, inr}
+use mathlib.Core.Logic.{_≢_}
 use native.Mathlib.Omega.{arith}
-use borrow.Author.Tests.{lt-ltb, le-ltb}
 use Rattle.hops.specs.Hops.{hops}
-use Rattle.hops.proofs.Laws.{hops-cases}
+use Rattle.hops.proofs.Laws.{hops-between}
 use Rattle.network.specs.Counting.{one}
 use Rattle.network.specs.Network.{ChannelState, Phase, resting, asking, ready, answering, moving, entryOf, targetOf}
 use Rattle.network.specs.Layout.{phaseCode}
-use Rattle.network.proofs.Ground.Splits.{by-less}
 use Rattle.messages.specs.Decides.{Decides}
 use Rattle.messages.specs.Messages.{onTheWay, UnderWay, Stands}
-use Rattle.messages.proofs.Decides.{restated, decides-less, decides-most, decides-and, decides-or}
+use Rattle.messages.proofs.Decides.{decides-most}
 
 pub decides-way : (n p entry target : ℕ) → p < n → entry < n → target < n →
-    Decides (onTheWay p entry target) (hops n p target ≤ hops n entry target)
+    Decides (onTheWay n p entry target) (hops n p target ≤ hops n entry target)
 unfolding onTheWay
 decides-way n p entry target pn en tn =
-    let from-p = hops-cases n p target pn tn in
-    let from-entry = hops-cases n entry target en tn in
-    by-less entry target
-    (λ l. rw (lt-ltb entry target l)
-    (restated
-    (λ way. ⊎-elim (λ a. ⊎-elim (λ b. omega arith) (λ b. omega arith) from-entry) (λ a. absurd (omega arith)) from-p)
-    (λ near. ⊎-elim (λ a. ⊎-elim (λ b. omega arith) (λ b. absurd (omega arith)) from-entry)
-    (λ a. ⊎-elim (λ b. absurd (omega arith)) (λ b. absurd (omega arith)) from-entry) from-p)
-    (decides-and (decides-most entry p) (decides-less p target))))
-    (λ l. rw (le-ltb entry target l)
-    (restated
-    (⊎-elim
-    (λ way. ⊎-elim (λ a. ⊎-elim (λ b. absurd (omega arith)) (λ b. omega arith) from-entry)
-    (λ a. ⊎-elim (λ b. absurd (omega arith)) (λ b. omega arith) from-entry) from-p)
-    (λ way. ⊎-elim (λ a. ⊎-elim (λ b. absurd (omega arith)) (λ b. omega arith) from-entry) (λ a. absurd (omega arith)) from-p))
-    (λ near. by-less p target inr
-    (λ past. inl (⊎-elim (λ a. absurd (omega arith)) (λ a. ⊎-elim (λ b. absurd (omega arith)) (λ b. omega arith) from-entry) from-p)))
-    (decides-or (decides-most entry p) (decides-less p target))))
+    rw (hops-between n p target pn tn, hops-between n entry target en tn) (decides-most _ _)
 
 -- by the phase
 
@@ -47,12 +28,12 @@ ends-below s n sends receives asking = (receives, sends)
 ends-below s n sends receives ready = (sends, receives)
 ends-below s n sends receives (answering x) = (sends, receives)
 
-module _ {code sender receiver place : ℕ} where
-  pub stands-nowhere : code ≢ 1 → code < 3 → place ≡ 0 → Stands code sender receiver place
+module _ {n code sender receiver place : ℕ} where
+  pub stands-nowhere : code ≢ 1 → code < 3 → place ≡ 0 → Stands n code sender receiver place
   stands-nowhere still most e =
       record { resting = λ h. e; asking = λ h. absurd (still h); ready = λ h. e; answering = λ h. absurd (omega arith) }
 
-  pub stands-asking : code ≡ 1 → UnderWay receiver sender place → Stands code sender receiver place
+  pub stands-asking : code ≡ 1 → UnderWay n receiver sender place → Stands n code sender receiver place
   stands-asking e way =
       record {
         resting = λ h. absurd (omega arith);
@@ -61,7 +42,7 @@ module _ {code sender receiver place : ℕ} where
         answering = λ h. absurd (omega arith);
       }
 
-  pub stands-answering : 3 ≤ code → UnderWay sender receiver place → Stands code sender receiver place
+  pub stands-answering : 3 ≤ code → UnderWay n sender receiver place → Stands n code sender receiver place
   stands-answering l way =
       record {
         resting = λ h. absurd (omega arith);
@@ -70,12 +51,12 @@ module _ {code sender receiver place : ℕ} where
         answering = λ h. way;
       }
 
-module _ (s : ChannelState) (place : ℕ) where
+module _ (n : ℕ) (s : ChannelState) (place : ℕ) where
   abbrev pub StandsBy : Phase → Type 0
-  StandsBy f = Stands (phaseCode f) (s .sender .0) (s .receiver .0) place
+  StandsBy f = Stands n (phaseCode f) (s .sender .0) (s .receiver .0) place
 
   abbrev pub Way : Phase → Type 0
-  Way f = UnderWay (entryOf s f .0) (targetOf s f .0) place
+  Way f = UnderWay n (entryOf s f .0) (targetOf s f .0) place
 
   pub stands-moving : (f : Phase) → StandsBy f → min 1 place ≡ one (moving f)
   stands-moving resting h = omega (arith, h .resting refl)

@@ -2,34 +2,34 @@
 -- may, and exactly the channels that have one on the ring have one there (`MessagesFit`). Assumes nothing.
 use Prim.Native.Nat.{ℕ, _+_, _*_, _<_, _≤_}
 use mathlib.Core.Path.{_≡_}
-use mathlib.Core.Bool.{Bool, true, cond, _&&_, _||_}
+use mathlib.Core.Bool.{Bool, true}
 use mathlib.Core.List.{List}
 use mathlib.Core.Option.{some}
-use lib.Dec.{leb, ltb}
+use lib.Dec.{leb}
 use lib.ListN.{length, getD, drop}
+use Rattle.hops.specs.Hops.{hopsBetween}
 use Rattle.network.specs.Layout.{nodeRoom, rowLength, cellRoom}
 use Rattle.messages.specs.RowPass.{inBuffer, inLine, markAll}
 
 abbrev pub Blank : List ℕ → Type 0
 Blank cells = (i : ℕ) → getD cells i 0 ≡ 0
 
--- node p is on the way from the node of entry up to the one before the target, round the ring
-unfoldable pub onTheWay : ℕ → ℕ → ℕ → Bool
-onTheWay p entry target =
-    cond (ltb entry target) (leb entry p && ltb p target) (leb entry p || ltb p target)
+-- on n nodes, p is on the way from the node of entry up to the one before the target: no further from the target than the entry is
+unfoldable pub onTheWay : ℕ → ℕ → ℕ → ℕ → Bool
+onTheWay n p entry target = leb (hopsBetween n p target) (hopsBetween n entry target)
 
 -- A message on its way stands in a buffer there or in the line at its node of entry.
-pub record UnderWay (entry target place : ℕ) : Type 0 where
+pub record UnderWay (n entry target place : ℕ) : Type 0 where
   pub somewhere : 1 ≤ place
-  pub in-buffer : (p : ℕ) → p < nodeRoom → place ≡ inBuffer + p → onTheWay p entry target ≡ true
+  pub in-buffer : (p : ℕ) → p < nodeRoom → place ≡ inBuffer + p → onTheWay n p entry target ≡ true
   pub in-line : (p : ℕ) → place ≡ inLine + p → p ≡ entry
 
 -- the place of a channel's message, by its phase
-pub record Stands (phase sender receiver place : ℕ) : Type 0 where
+pub record Stands (n phase sender receiver place : ℕ) : Type 0 where
   pub resting : phase ≡ 0 → place ≡ 0
-  pub asking : phase ≡ 1 → UnderWay receiver sender place
+  pub asking : phase ≡ 1 → UnderWay n receiver sender place
   pub ready : phase ≡ 2 → place ≡ 0
-  pub answering : 3 ≤ phase → UnderWay sender receiver place
+  pub answering : 3 ≤ phase → UnderWay n sender receiver place
 
 pub record MessagesFit (n c : ℕ) (used waiting phases senders receivers slots lines : List ℕ) : Type 0 where
   pub slots-whole : length slots ≡ cellRoom
@@ -38,4 +38,4 @@ pub record MessagesFit (n c : ℕ) (used waiting phases senders receivers slots 
   pub lines-beyond : Blank (drop (rowLength * n) lines)
   pub places : List ℕ
   pub marked : markAll n c used waiting slots lines ≡ some places
-  pub right : (k : ℕ) → k < c → Stands (getD phases k 0) (getD senders k 0) (getD receivers k 0) (getD places k 0)
+  pub right : (k : ℕ) → k < c → Stands n (getD phases k 0) (getD senders k 0) (getD receivers k 0) (getD places k 0)

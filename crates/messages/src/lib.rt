@@ -22,20 +22,19 @@ const IN_BUFFER: u8 = 1;
 
 const IN_LINE: u8 = NODES as u8 + IN_BUFFER;
 
-// Whether node p is on the way from the node of entry up to the one before the target, round the ring.
-fn on_the_way(p: u8, entry: u8, target: u8) -> bool
-    ensures { λ r. ⌜ r ≡ onTheWay p entry target ⌝ }
+// Whether node p of n is on the way from the node of entry up to the one before the target: no further from the target than the entry is.
+fn on_the_way(n: u8, p: u8, entry: u8, target: u8) -> bool
+    ensures { λ r. ⌜ r ≡ onTheWay n p entry target ⌝ }
 {
-    if entry < target {
-        return entry <= p && p < target;
-    }
-    entry <= p || p < target
+    let left = hops::hops(n, p, target);
+    let whole = hops::hops(n, entry, target);
+    left <= whole
 }
 
 // Whether a channel's message stands where it may: in a line at its node of entry, in a buffer on its way, and nowhere where the channel
 // has none.
-fn stands_right(phase: u8, sender: u8, receiver: u8, place: u8) -> bool
-    ensures { λ r. ⌜ Decides r (Stands phase sender receiver place) ⌝ }
+fn stands_right(n: u8, phase: u8, sender: u8, receiver: u8, place: u8) -> bool
+    ensures { λ r. ⌜ Decides r (Stands n phase sender receiver place) ⌝ }
 {
     if phase == Ring::RESTING {
         return place == 0;
@@ -55,11 +54,12 @@ fn stands_right(phase: u8, sender: u8, receiver: u8, place: u8) -> bool
     if IN_LINE <= place {
         return place - IN_LINE == entry;
     }
-    on_the_way(place - IN_BUFFER, entry, target)
+    on_the_way(n, place - IN_BUFFER, entry, target)
 }
 
 // Every message stands where it may, for the channels in use.
 fn all_right(
+    n: u8,
     count: usize,
     phases: &ByChannel,
     senders: &ByChannel,
@@ -67,13 +67,13 @@ fn all_right(
     places: &ByChannel,
 ) -> bool
     requires { ⌜ count ≤ channelRoom ⌝ }
-    ensures { λ r. ⌜ Decides r ((k : ℕ) → k < count → Stands (getD (now (phases .entry)) k 0) (getD (now (senders .entry)) k 0)
+    ensures { λ r. ⌜ Decides r ((k : ℕ) → k < count → Stands n (getD (now (phases .entry)) k 0) (getD (now (senders .entry)) k 0)
         (getD (now (receivers .entry)) k 0) (getD (now (places .entry)) k 0)) ⌝ }
 {
     let mut wrong: u8 = 0;
     let mut k = 0;
     while k < count {
-        if !stands_right(phases[k], senders[k], receivers[k], places[k]) {
+        if !stands_right(n, phases[k], senders[k], receivers[k], places[k]) {
             wrong += 1;
         }
         k += 1;
@@ -121,5 +121,6 @@ pub fn messages_fit(
     ) {
         return false;
     }
-    all_right(channel_count as usize, phases, senders, receivers, &places)
+    let count = channel_count as usize;
+    all_right(node_count, count, phases, senders, receivers, &places)
 }

@@ -16,8 +16,8 @@ use borrow.Author.Tests.{lt-ltb, eq-eqb, ne-eqb}
 use Rattle.batch.specs.declared.BatchRecord.{BatchRecord}
 use Rattle.numbers.specs.declared.NodeNo.{NodeNo}
 use Rattle.numbers.specs.declared.ChannelNo.{ChannelNo}
-use Rattle.hops.specs.Hops.{hops, sheetNodes, sheetHops}
-use Rattle.hops.proofs.Laws.{hops-to-n, on-sheet, off-sheet}
+use Rattle.hops.specs.Hops.{hops, hopsBetween}
+use Rattle.hops.proofs.Laws.{hops-between}
 use Rattle.network.specs.declared.Head.{Head}
 use Rattle.network.specs.declared.Ring.{Ring}
 use Rattle.network.specs.Counting.{one, weigh, count}
@@ -26,7 +26,7 @@ use Rattle.network.specs.Calls.{hopsAre, accepted, holder, hopsLeftOf, hopsOf}
 use Rattle.network.specs.Calls
 use Rattle.network.specs.Runs
 use Rattle.network.specs.Layout.{rowLength, cellsOf, view, hold, soundRing, callRing}
-use Rattle.network.proofs.Ground.Splits.{by-test, by-same, by-less, by-phase}
+use Rattle.network.proofs.Ground.Splits.{by-test, by-same, by-phase}
 use Rattle.network.proofs.Ground.Numbers.{length-numbers}
 use Rattle.network.proofs.Ground.Counting.{weigh-snoc}
 use Rattle.network.proofs.Memory.Rows.{getD-padded, getD-row}
@@ -121,19 +121,9 @@ module _ (cells : List ℕ) (base k : ℕ) (xs : List ℕ)
   stands-where : standsIn cells base (suc k) (length xs) ≡ ltb 0 (count k xs)
   stands-where = stands-counted (length xs) (omega arith) ∙ ap (λ ys. ltb 0 (count k ys)) (take-all (length xs) xs (omega arith))
 
--- what the sheet says is at most its number of nodes, whatever it is asked
-pub sheet-most : (n p q : ℕ) {r : ℕ} → r ≡ sheetHops n p q → r ≤ sheetNodes
-sheet-most n p q {r} said =
-    let off : (n ≤ sheetNodes → p < n → q < n → ⊥) → r ≤ sheetNodes = λ none. omega (arith, off-sheet n p q none) in
-    by-less sheetNodes n (λ l. off (λ a b c. omega arith)) λ most.
-    by-less p n
-    (λ lp.
-    by-less q n (λ lq. omega (arith, on-sheet n p q most lp lq, hops-to-n n p q lp lq)) (λ l. off (λ a b c. omega arith)))
-    (λ l. off (λ a b c. omega arith))
-
--- and the way from a node that was found is the way from where it is
-pub way-found : (n q : ℕ) {r from p : ℕ} → r ≡ sheetHops n from q → from ≡ p → r ≡ sheetHops n p q
-way-found n q said found = said ∙ ap (λ p. sheetHops n p q) found
+-- the way from a node that was found is the way from where it is
+pub way-found : (n q : ℕ) {r from p : ℕ} → r ≡ hopsBetween n from q → from ≡ p → r ≡ hopsBetween n p q
+way-found n q said found = said ∙ ap (λ p. hopsBetween n p q) found
 
 -- the node where a message is: the one that holds it in its buffer, or else the node of entry
 abbrev standsAt : Option NodeNo → ℕ → ℕ
@@ -212,23 +202,23 @@ module _ {ring : Ring} {k : ℕ} (h : AtChannel ring k) where
   abbrev from : ℕ → ℕ
   from entry = standsAt (holder σ (channelNo k) n) entry
 
-  on-the-sheet : (p q : ℕ) → p < n → q < n → sheetHops (ring .head .«node_count») p q ≡ hops n p q
-  on-the-sheet p q lp lq =
-      ap (λ m. sheetHops m p q) (known .holds .node-count) ∙ on-sheet n p q (known .fits .nodes-fit) lp lq
+  on-the-ring : (p q : ℕ) → p < n → q < n → hopsBetween (ring .head .«node_count») p q ≡ hops n p q
+  on-the-ring p q lp lq =
+      ap (λ m. hopsBetween m p q) (known .holds .node-count) ∙ hops-between n p q lp lq
 
   way-is : (entry q : ℕ) → entry < n → q < n → wayIn (ring .head) (ring .slots) k entry q ≡ hops n (from entry) q
   way-is entry q le lq =
       let count = known .holds .node-count in
-      ap (λ p. sheetHops (ring .head .«node_count») p q)
+      ap (λ p. hopsBetween (ring .head .«node_count») p q)
       (ap (placeIn (ring .head) (ring .slots) (k + 1) entry) count ∙ place-held entry n (omega arith))
-      ∙ on-the-sheet (from entry) q (stands-below σ (channelNo k) entry n n le (omega arith)) lq
+      ∙ on-the-ring (from entry) q (stands-below σ (channelNo k) entry n n le (omega arith)) lq
 
   hops-found : hopsIn (ring .head) (ring .slots) k ≡ hopsOf σ (channelNo k)
   unfolding hopsOf
   hops-found =
       let c = channel-numbers h in
       let at = holder σ (channelNo k) n in
-      let back = on-the-sheet sender receiver sender-below receiver-below in
+      let back = on-the-ring sender receiver sender-below receiver-below in
       let there = way-is receiver sender receiver-below sender-below in
       rw (c .sender, c .receiver, c .phase)
       (by-phase (channel σ (channelNo k) .phase) (λ e. rw e)

@@ -5,7 +5,7 @@ use mathlib.Core.Bool.{Bool, false, cond, _&&_, _||_, not}
 use mathlib.Core.List.{List}
 use lib.Dec.{eqb}
 use lib.ListN.{getD}
-use Rattle.hops.specs.Hops.{sheetHops}
+use Rattle.hops.specs.Hops.{hopsBetween}
 use Rattle.network.specs.declared.Head.{Head}
 use Rattle.network.specs.Counting.{one, sum}
 use Rattle.network.specs.Layout.{nodeRoom, channelRoom, rowLength}
@@ -28,12 +28,12 @@ placeIn h slots cell entry zero = entry
 placeIn h slots cell entry (suc p) =
     cond (standsIn slots (rowLength * p) cell (usedAt h p)) p (placeIn h slots cell entry p)
 
--- on the sheet: the way back of channel k, from its sender to its receiver; and the way of its message to node q, from where it stands
+-- in hops: the way back of channel k, from its sender to its receiver; and the way of its message to node q, from where it stands
 abbrev pub backIn : Head → ℕ → ℕ
-backIn h k = sheetHops (h .«node_count») (senderAt h k) (receiverAt h k)
+backIn h k = hopsBetween (h .«node_count») (senderAt h k) (receiverAt h k)
 
 abbrev pub wayIn : Head → List ℕ → ℕ → ℕ → ℕ → ℕ
-wayIn h slots k entry q = sheetHops (h .«node_count») (placeIn h slots (k + 1) entry (h .«node_count»)) q
+wayIn h slots k entry q = hopsBetween (h .«node_count») (placeIn h slots (k + 1) entry (h .«node_count»)) q
 
 -- hops left, by the number of the phase
 abbrev pub hopsIn : Head → List ℕ → ℕ → ℕ

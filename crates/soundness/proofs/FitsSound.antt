@@ -41,7 +41,7 @@ module _ (ring : Ring) (f : Fits ring) where
       (sum-same (nodes ring) _ _ (λ p l. rw (node-of ring p l)))
       ∙ sym (table ring f .counted k)
 
-  stands : (k : ℕ) → k < channels ring → StandsBy (channel σ (channelNo k)) (place k) (channel σ (channelNo k) .phase)
+  stands : (k : ℕ) → k < channels ring → StandsBy (nodes ring) (channel σ (channelNo k)) (place k) (channel σ (channelNo k) .phase)
   stands k l =
       let room : k < channelRoom = omega (arith, f .counts .channels-within) in
       let h = channel-held ring f k room in
@@ -49,8 +49,8 @@ module _ (ring : Ring) (f : Fits ring) where
 
   -- a message that stands somewhere is under way between nodes
   module _ (k : ℕ) (l : k < channels ring) (some-place : 1 ≤ place k) where
-    under-way : Way (channel σ (channelNo k)) (place k) (channel σ (channelNo k) .phase)
-    under-way = stands-way (channel σ (channelNo k)) (place k) (channel σ (channelNo k) .phase) (stands k l) some-place
+    under-way : Way (nodes ring) (channel σ (channelNo k)) (place k) (channel σ (channelNo k) .phase)
+    under-way = stands-way (nodes ring) (channel σ (channelNo k)) (place k) (channel σ (channelNo k) .phase) (stands k l) some-place
 
     ends :
         (entryOf (channel σ (channelNo k)) (channel σ (channelNo k) .phase) .0 < nodes ring)
@@ -103,7 +103,7 @@ module _ (ring : Ring) (f : Fits ring) where
       record {
         sender-below = rw (node-count-of ring, e) (u .sender-below);
         receiver-below = rw (node-count-of ring, e) (u .receiver-below);
-        once = times-of k ∙ stands-moving (channel σ (channelNo k)) (place k) (channel σ (channelNo k) .phase) (stands k l);
+        once = times-of k ∙ stands-moving (nodes ring) (channel σ (channelNo k)) (place k) (channel σ (channelNo k) .phase) (stands k l);
         ready-bare = λ r. none-offered (channel σ (channelNo k) .offer) (sym (h .offered) ∙ u .state .ready-bare (h .phase ∙ ap phaseCode r));
         good-offer = rw e (good-if-offered (recordAt (ring .offers) k) (getD (ring .head .offered) k 0) (f .records .offer-fits k l .good));
         good-carried =

@@ -105,7 +105,7 @@ module _ (ring : Ring) (s : SoundRing ring) where
           (rw (node-count-of ring) at (facts .receiver-below))
           (channel σ (channelNo k) .phase)
 
-      at-buffer : (p : ℕ) → p < nodes ring → 0 < timesIn (node σ (nodeNo p) .buffer) (channelNo k) → UnderWay enters goes-to (place k)
+      at-buffer : (p : ℕ) → p < nodes ring → 0 < timesIn (node σ (nodeNo p) .buffer) (channelNo k) → UnderWay (nodes ring) enters goes-to (place k)
       at-buffer p here m =
           let at : place k ≡ inBuffer + p = t .in-buffer p k here (rw (node-of ring p here) at m) in
           let fit = s .facts .each-node p (known-node p here) .in-buffer k m in
@@ -120,7 +120,7 @@ module _ (ring : Ring) (s : SoundRing ring) where
             in-line = λ q e. absurd (omega (arith, in-room p here));
           }
 
-      at-line : (p : ℕ) → p < nodes ring → 0 < timesIn (node σ (nodeNo p) .line) (channelNo k) → UnderWay enters goes-to (place k)
+      at-line : (p : ℕ) → p < nodes ring → 0 < timesIn (node σ (nodeNo p) .line) (channelNo k) → UnderWay (nodes ring) enters goes-to (place k)
       at-line p here m =
           let at : place k ≡ inLine + p = t .in-line p k here (rw (node-of ring p here) at m) in
           let fit = s .facts .each-node p (known-node p here) .in-line k m in
@@ -131,15 +131,15 @@ module _ (ring : Ring) (s : SoundRing ring) where
             in-line = λ q e. omega arith;
           }
 
-      under-way : 1 ≤ place k → UnderWay enters goes-to (place k)
+      under-way : 1 ≤ place k → UnderWay (nodes ring) enters goes-to (place k)
       under-way somewhere = by-place k (omega (arith, moves k, times k)) at-buffer at-line
 
     stands : (k : ℕ) → k < channels ring →
-        Stands (getD (ring .head .phases) k 0) (getD (ring .head .senders) k 0) (getD (ring .head .receivers) k 0) (place k)
+        Stands (nodes ring) (getD (ring .head .phases) k 0) (getD (ring .head .senders) k 0) (getD (ring .head .receivers) k 0) (place k)
     stands k l =
         let h = s .holds .channels k (omega (arith, within)) in
         rw (h .phase, h .sender, h .receiver)
-        (way-stands (channel σ (channelNo k)) (place k) (channel σ (channelNo k) .phase) (moves k) (under-way k l))
+        (way-stands (nodes ring) (channel σ (channelNo k)) (place k) (channel σ (channelNo k) .phase) (moves k) (under-way k l))
 
   messages-fit :
       MessagesFit (nodes ring) (channels ring) (ring .head .used) (ring .head .waiting) (ring .head .phases) (ring .head .senders)

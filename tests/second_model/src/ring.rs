@@ -287,30 +287,14 @@ pub struct Delivery {
     pub record: Record,
 }
 
-/// "The hop table of 4,096 entries, by n - 1, p and q, ... with 0 where p or q
-/// is n or more."
-pub const HOPS: [u8; 4096] = hop_table();
-
-const fn hop_table() -> [u8; 4096] {
-    let mut table = [0; 4096];
-    let mut at = 0;
-    while at < 4096 {
-        let (n, p, q) = (at / 256 + 1, at / 16 % 16, at % 16);
-        if p < n && q < n {
-            table[at] = least_hops(n, p, q);
-        }
-        at += 1;
+/// Hops, by a formula (02, N6): on to q where it lies ahead, else round the ring;
+/// "0 where p or q is n or more". `tests/scope.rs` holds it against the rule.
+pub fn hops(n: u8, p: u8, q: u8) -> u8 {
+    match (p, q) {
+        _ if p >= n || q >= n => 0,
+        _ if p < q => q - p,
+        _ => n - p + q,
     }
-    table
-}
-
-/// "the least h from 1 to n with p + h and q leaving the same remainder by n"
-const fn least_hops(n: usize, p: usize, q: usize) -> u8 {
-    let mut h = 1;
-    while (p + h) % n != q % n {
-        h += 1;
-    }
-    h as u8
 }
 
 /// The ring of a site. A message on the ring is one cell that holds its channel
@@ -588,7 +572,7 @@ impl Ring {
     }
 
     fn hops(&self, from: NodeNumber, to: NodeNumber) -> u8 {
-        HOPS[(self.node_count as usize - 1) * 256 + from.0 as usize * 16 + to.0 as usize]
+        hops(self.node_count, from.0, to.0)
     }
 
     /// The node in whose buffer the channel's message is.

@@ -132,10 +132,6 @@ fn p1_and_p2_slots_and_channels_at_start() {
     }
 }
 
-fn hops(n: usize, p: usize, q: usize) -> u8 {
-    HOPS[(n - 1) * 256 + p * 16 + q]
-}
-
 #[test]
 fn p3_to_p5_hops() {
     assert_eq!(hops(3, 2, 1), 2);
@@ -143,19 +139,17 @@ fn p3_to_p5_hops() {
     assert_eq!(hops(1, 0, 0), 1);
 }
 
+/// 02, N6: "Replace the 4,096 by their formula. The table's rule stays as the
+/// meaning of hops": "the least h from 1 to n with p + h and q leaving the same
+/// remainder by n", and "0 where p or q is n or more".
 #[test]
-fn every_entry_of_the_hop_table() {
-    assert_eq!(HOPS.len(), 4096);
-    for n in 1..=16 {
-        for p in 0..16 {
-            for q in 0..16 {
-                let h = hops(n, p, q) as usize;
-                if p >= n || q >= n {
-                    assert_eq!(h, 0);
-                } else {
-                    assert!((1..=n).contains(&h) && (p + h) % n == q % n);
-                    assert!((1..h).all(|less| (p + less) % n != q % n));
-                }
+fn the_formula_keeps_the_rule() {
+    for n in (0..=40).chain([254, 255u8]) {
+        for p in 0..=n.saturating_add(2) {
+            for q in 0..=n.saturating_add(2) {
+                let reaches = |h: &u8| (p as u16 + *h as u16) % n as u16 == q as u16 % n as u16;
+                let least = if p < n && q < n { (1..=n).find(reaches) } else { Some(0) };
+                assert_eq!(Some(hops(n, p, q)), least, "{n} {p} {q}");
             }
         }
     }

@@ -139,8 +139,8 @@ fn counts_and_node_numbers_in_range() {
             ("a turn mark of 2", |ring| ring.nodes[1].turn_mark = 2),
         ],
     );
-    // A node number that would lead out of the hop table, with a message whose
-    // way depends on it.
+    // A node number that the ring does not have, with a message whose way
+    // depends on it.
     let mut ring = Ring::fresh();
     (0..16).for_each(|_| ring.add_node(2).unwrap());
     ring.add_channel(node(9), node(0)).unwrap();

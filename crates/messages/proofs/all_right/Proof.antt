@@ -10,16 +10,16 @@ use Rattle.messages.proofs.Loops.{Counting, counting-start, counting-tu
 use Rattle.messages.proofs.all_right.Statement.{statement}
 use Rattle.messages.proofs.all_right.Tie as tie
 
-abbrev StandsAt : List ℕ → List ℕ → List ℕ → List ℕ → ℕ → Type 0
-StandsAt phases senders receivers places k =
-    Stands (getD phases k 0) (getD senders k 0) (getD receivers k 0) (getD places k 0)
+abbrev StandsAt : ℕ → List ℕ → List ℕ → List ℕ → List ℕ → ℕ → Type 0
+StandsAt n phases senders receivers places k =
+    Stands n (getD phases k 0) (getD senders k 0) (getD receivers k 0) (getD places k 0)
 
 abbrev Inv-loop : tie.InvT-loop
-Inv-loop count phases senders receivers places wrong₀ k₀ wrong k =
-    Counting (StandsAt phases senders receivers places) count wrong k
+Inv-loop n count phases senders receivers places wrong₀ k₀ wrong k =
+    Counting (StandsAt n phases senders receivers places) count wrong k
 
 abbrev μ-loop : tie.MeasureT-loop
-μ-loop count phases senders receivers places wrong₀ k₀ wrong k = count - k
+μ-loop n count phases senders receivers places wrong₀ k₀ wrong k = count - k
 
 loop-again : tie.Need-loop-again Inv-loop μ-loop
 loop-again c =

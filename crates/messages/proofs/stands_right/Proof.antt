@@ -16,8 +16,8 @@ use Rattle.messages.proofs.stands_right.Statement.{statement}
 use Rattle.messages.proofs.stands_right.Tie as tie
 
 -- a channel that rests or is ready has no message
-nowhere : {phase sender receiver place : ℕ} → phase ≢ 1 → phase < 3 → Decides (eqb place 0) (Stands phase sender receiver place)
-nowhere {phase} still most =
+nowhere : {n phase sender receiver place : ℕ} → phase ≢ 1 → phase < 3 → Decides (eqb place 0) (Stands n phase sender receiver place)
+nowhere {n} {phase} still most =
     restated (stands-nowhere still most) (λ s. by-same phase 0 (s .resting) (λ d. s .ready (omega arith))) (decides-same _ 0)
 
 returns : tie.Need-returns
@@ -41,8 +41,8 @@ start c = c .before .before .before
 
 routed : (c : tie.Joined4) {r : Bool} →
     let given = start (c .before) .args in
-    Decides r (UnderWay (c .if4 .entry) (c .if4 .target) (given .place)) →
-    Decides r (Stands (given .phase) (given .sender) (given .receiver) (given .place))
+    Decides r (UnderWay (given .n) (c .if4 .entry) (c .if4 .target) (given .place)) →
+    Decides r (Stands (given .n) (given .phase) (given .sender) (given .receiver) (given .place))
 routed c d =
     ⊎-elim
     (λ w. let asks = w .0 .taken in restated (stands-asking asks) (λ s. s .asking asks) (rw (w .1, w .2) at d))

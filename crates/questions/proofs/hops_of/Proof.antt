@@ -3,7 +3,8 @@ use Prim.Native.Nat.{_+_}
 use native.Mathlib.Omega.{arith}
 use borrow.Author.Needs.{needs}
 use borrow.Author.Tests.{eq-eqb, ne-eqb}
-use Rattle.questions.proofs.Standing.{sheet-most, way-found}
+use Rattle.hops.proofs.Laws.{hops-most}
+use Rattle.questions.proofs.Standing.{way-found}
 use Rattle.questions.proofs.hops_of.Statement.{statement}
 use Rattle.questions.proofs.hops_of.Tie as tie
 
@@ -18,7 +19,10 @@ returns-2 : tie.Need-returns-2
 returns-2 c = rw (ne-eqb _ 0 (c .before .before .if1 .left), eq-eqb _ 2 (c .if2 .taken)) (c .before .hops .ensures)
 
 add-result : tie.Need-add-result
-add-result c = omega (arith, sheet-most _ _ _ (c .hops2 .ensures), sheet-most _ _ _ (c .before .before .before .before .hops .ensures))
+add-result c =
+    let on-way = c .before .before .before .before in
+    let start = on-way .before .before .before .before .before in
+    omega (arith, start .pre .0 .nodes, hops-most _ _ _ (c .hops2 .ensures), hops-most _ _ _ (on-way .hops .ensures))
 
 returns-3 : tie.Need-returns-3
 returns-3 c =
