@@ -14,7 +14,8 @@ use Rattle.messages.specs.RowPass.{inBuffer, inLine, markAll}
 abbrev pub Blank : List ℕ → Type 0
 Blank cells = (i : ℕ) → getD cells i 0 ≡ 0
 
--- on n nodes, p is on the way from the node of entry up to the one before the target: no further from the target than the entry is
+-- Node p of n is on the way from the node of entry up to the one before the target: no further from the target than the entry is. Only the
+-- rows of the n nodes are read, so p is always one of them.
 unfoldable pub onTheWay : ℕ → ℕ → ℕ → ℕ → Bool
 onTheWay n p entry target = leb (hopsBetween n p target) (hopsBetween n entry target)
 

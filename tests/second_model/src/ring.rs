@@ -290,10 +290,12 @@ pub struct Delivery {
 /// Hops, by a formula (02, N6): on to q where it lies ahead, else round the ring;
 /// "0 where p or q is n or more". `tests/scope.rs` holds it against the rule.
 pub fn hops(n: u8, p: u8, q: u8) -> u8 {
-    match (p, q) {
-        _ if p >= n || q >= n => 0,
-        _ if p < q => q - p,
-        _ => n - p + q,
+    if p >= n || q >= n {
+        0
+    } else if p < q {
+        q - p
+    } else {
+        n - p + q
     }
 }
 
