@@ -233,7 +233,9 @@ uint8_t vessel_ring_send(struct vessel_ring *ring, uint8_t channel, struct vesse
    times as many hundredths. Refusals: 25, 8, 9, 11, 12, 13, 14, 30, 15. */
 uint8_t vessel_ring_send_tenths(struct vessel_ring *ring, uint8_t channel, struct vessel_record record);
 
-/* ---- the traffic: called at every node, in any order, again and again. A refusal of these says that there is nothing to do here now. */
+/* ---- the traffic: called at every node, in any order, again and again. A refusal of these says that there is nothing to do here now. An
+   entry touches its node, a move its node and the next: two entries or moves that touch no common node give the same two answers and the
+   same ring, whichever comes first. */
 
 /* Brings the first message of the node's line into its buffer. Refusals: 25, 8, 16, 17, 18. */
 uint8_t vessel_ring_enter(struct vessel_ring *ring, uint8_t node);

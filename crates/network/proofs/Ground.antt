@@ -1,6 +1,7 @@
--- Ground: the worked lists of deeds, the worked sends, case splits, node and channel numbers as plain ones, sums and counts, and tests
--- read as statements.
+-- Ground: the worked lists of deeds, the worked pairs of entries and moves, the worked sends, case splits, node and channel numbers as
+-- plain ones, sums and counts, and tests read as statements.
 pub mod Deeds
+pub mod AtTwoEnds
 pub mod BlankEnds
 pub mod Hundredths
 pub mod Splits

@@ -1,6 +1,6 @@
 -- The ring of document 01 in antt: what it is, when it is sound, what each call does, and what is promised of a run of calls.
--- Read in this order: Network, Sound with Way, Calls, Runs, Demand, Dispatch; then Layout, which says how a ring is held in memory, Promise
--- and Dispatcher.
+-- Read in this order: Network, Sound with Way, Calls, Runs, Demand, Dispatch; then Layout, which says how a ring is held in memory, Promise,
+-- Dispatcher and Commute.
 pub mod Counting
 pub mod Network
 pub mod Sound
@@ -13,9 +13,11 @@ pub mod Layout
 pub mod Answers
 pub mod Promise
 pub mod Dispatcher
+pub mod Commute
 pub mod Edges
 pub mod Withdrawals
 pub mod BlankEnds
 pub mod Hundredths
 pub mod Rounds
+pub mod Pairs
 pub mod Dummies

@@ -1,10 +1,12 @@
 //! calls COUNT SEED: makes COUNT calls of the library, each also on the model and, where the ring is sound, on the second model, and
 //! compares the answer and every byte of the ring after it.
 //! The rings come from runs from a fresh one, from hand-made ones, and from both with bytes changed. Besides, commands are read and
-//! written, and rings held in tenths are turned into hundredths (turns.rs) and called on. Fails on a difference, when a refusal from 1 to
-//! 28 or 30 was never answered, and when withdrawals, names (blanks.rs), temperatures or turned rings showed too little.
+//! written, rings held in tenths are turned into hundredths (turns.rs) and called on, and entries and moves are made in both orders
+//! (orders.rs). Fails on a difference, when a refusal from 1 to 28 or 30 was never answered, and when withdrawals, names (blanks.rs),
+//! temperatures, turned rings or pairs in both orders showed too little.
 
 mod blanks;
+mod orders;
 mod sights;
 mod turns;
 
@@ -15,6 +17,7 @@ use calls::model::{Answer, Call, Network};
 use calls::second;
 use calls::tape::{self, Read};
 use damaged_rings::damage::{change_place, change_whole};
+use orders::Orders;
 use second_model::coverage::{Temperatures, TEMPERATURE_SIGHTS};
 use second_model::ring::Unit;
 use sights::Sights;
@@ -56,6 +59,7 @@ struct Tally {
     blanks: Blanks,
     temperatures: Temperatures,
     turns: Turns,
+    orders: Orders,
     damaged: u64,
     still_sound: u64,
     commands: u64,
@@ -72,6 +76,7 @@ impl Tally {
             blanks: Blanks::default(),
             temperatures: Temperatures::default(),
             turns: Turns::default(),
+            orders: Orders::default(),
             damaged: 0,
             still_sound: 0,
             commands: 0,
@@ -104,6 +109,7 @@ impl Tally {
         self.blanks.print();
         self.sights().for_each(|(name, times)| println!("{times:8} {name}"));
         self.turns.print();
+        self.orders.print();
         for (number, times) in self.refusals.iter().enumerate().skip(1) {
             print!("{number}:{times} ");
         }
@@ -121,7 +127,7 @@ impl Tally {
             ("a withdrawal of the first that keeps a mark", marks_kept),
         ];
         let withdrawals = withdrawals.map(|(name, times)| (name.to_string(), times));
-        let sights = self.blanks.sights().chain(self.sights()).chain(self.turns.sights());
+        let sights = self.blanks.sights().chain(self.sights()).chain(self.turns.sights()).chain(self.orders.sights());
         refusals.chain(withdrawals).chain(sights).filter(|(_, times)| *times == 0).map(|(name, _)| name).collect()
     }
 }
@@ -233,6 +239,7 @@ fn sound_run(random: &mut Random, tally: &mut Tally) -> Result<Pair, String> {
     let mut pair = if random.percent(60) {
         let mut pair = Pair::of(Ring::fresh());
         for call in draw::plan(random) {
+            tally.orders.drawn_pair(&pair.ring, random)?;
             pair.call(call, tally)?;
         }
         pair
@@ -242,9 +249,11 @@ fn sound_run(random: &mut Random, tally: &mut Tally) -> Result<Pair, String> {
     if pair.model.is_none() {
         return Err(format!("a ring that was made sound is not, by the model: {:?}", pair.ring));
     }
+    tally.orders.every_pair(&pair.ring)?;
     for _ in 0..random.between(0, 400) {
         let (nodes, channels) = pair.size();
         pair.call(draw::running_call(random, nodes, channels), tally)?;
+        tally.orders.drawn_pair(&pair.ring, random)?;
     }
     Ok(pair)
 }
@@ -293,6 +302,7 @@ fn damaged_run(ring: &Ring, random: &mut Random, tally: &mut Tally) -> Result<()
     let mut pair = Pair::of(changed(ring, random));
     tally.damaged += 1;
     tally.still_sound += u64::from(pair.model.is_some());
+    tally.orders.drawn_pair(&pair.ring, random)?;
     let (nodes, channels) = pair.size();
     for _ in 0..9 {
         pair.call(draw::any_call(random, nodes.min(16), channels.min(64)), tally)?;

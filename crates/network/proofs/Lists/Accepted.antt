@@ -48,7 +48,7 @@ pub data Answered (σ : Network) (a : Call) (e : Event) (τ : Network) : Type 0 
   by-question : Silent a e → τ ≡ σ → Answered σ a e τ
 
 -- a message that is not taken at the next node leaves its own: on a ring of one node it would be taken
-next-elsewhere : (n p q : ℕ) → p < n → q < n → next n p ≢ q → next n p ≢ p
+pub next-elsewhere : (n p q : ℕ) → p < n → q < n → next n p ≢ q → next n p ≢ p
 next-elsewhere n p q lp lq d e = ⊎-elim (λ last. d (omega arith)) (λ more. omega arith) (Laws.next-cases n p)
 
 -- what becomes of a message under way that reaches node q

@@ -311,8 +311,11 @@ pub is-sound-ring : (ring : Ring) → hold (view ring) ≡ ring → Sound.sound 
 unfolding soundRing
 is-sound-ring ring laid-out sound = and-both _ _ (held-laid-out ring laid-out) sound
 
--- a sound ring is laid out as a sound ring in memory
+-- a sound ring is laid out as a sound ring in memory, which holds it
+pub sound-view : (σ : Network) → Sound.sound ringLimits σ ≡ true → view (hold σ) ≡ σ
+sound-view σ e = view-hold σ (sound-fits σ (facts ringLimits σ e))
+
 pub sound-hold : (σ : Network) → Sound.sound ringLimits σ ≡ true → soundRing (hold σ) ≡ true
 sound-hold σ e =
-    let back : view (hold σ) ≡ σ = view-hold σ (sound-fits σ (facts ringLimits σ e)) in
+    let back = sound-view σ e in
     is-sound-ring (hold σ) (ap hold back) (rw back e)

@@ -25,9 +25,9 @@ use Rattle.network.proofs.Ground.Joined.{ready-is}
 use Rattle.network.proofs.Theory.State.{Sound, turn}
 use Rattle.network.proofs.Theory.Kept.{good-unready, kept-records, kept-offer}
 use Rattle.network.proofs.Lists.Tables.{netOf, stateOf, turned}
-use Rattle.network.proofs.Lists.Clauses.{Within, Started, facts, sound-started, started-sound}
+use Rattle.network.proofs.Lists.Clauses.{Within, Started, sound-started, started-sound}
 use Rattle.network.proofs.Lists.Outcomes.{After, not-done, was-done, if-met, if-good}
-use Rattle.network.proofs.Memory.Held.{view-hold, sound-fits, sound-ring, sound-hold}
+use Rattle.network.proofs.Memory.Held.{sound-view, sound-ring, sound-hold}
 use Rattle.network.proofs.Promises.Machine.{offered-seen}
 use Rattle.network.proofs.Promises.Demand.{ring-machine, ring-demand3, ring-safe}
 use Rattle.network.proofs.Promises.Edges.{number-after}
@@ -36,7 +36,7 @@ use Rattle.network.proofs.Promises.Edges.{number-after}
 pub held-answers : (σ : Network) (calls : List Call) → sound ringLimits σ ≡ true → answers callRing calls (hold σ) ≡ answers (call ringLimits) calls σ
 held-answers σ calls ok =
     ring-demand3 .each (hold σ) calls (sound-hold σ ok) .same-answers
-    ∙ ap (answers (call ringLimits) calls) (view-hold σ (sound-fits σ (facts ringLimits σ ok)))
+    ∙ ap (answers (call ringLimits) calls) (sound-view σ ok)
 
 pub rows-answer : (rs : List Row) →
     map (answered (λ before. run callRing before freshRing) callRing) rs

@@ -29,8 +29,7 @@ use Rattle.network.specs.Demand.{InTime, UnderWay}
 use Rattle.network.specs.Promise.{MeetsContracts}
 use Rattle.network.specs.Edges.{n0, n1, c0, workedRecord}
 use Rattle.network.specs.Dummies.{Way, truly, actsLaterLaps, grudgesSlots, invents, movesNothing, turnsDown, alwaysSays, begun, inLine, inBuffer, firstLap, secondLap, broken, checkedRing, asCode, Exposed, Demand2Rejects, ServedBy, InOrderBy, Demand3Rejects, elevenLaps, pastTheBound, EachCanFail, SevenCounted}
-use Rattle.network.proofs.Lists.Clauses.{facts}
-use Rattle.network.proofs.Memory.Held.{view-hold, sound-fits, sound-hold}
+use Rattle.network.proofs.Memory.Held.{sound-view, sound-hold}
 use Rattle.network.proofs.Promises.Answers.{steps-keep}
 
 -- demand 2: where a sound ring is answered otherwise, the contracts are not met
@@ -45,7 +44,7 @@ same-outcome ring o o′ same = sym (steps-keep ring o) ∙ ap outcomeOf same �
 
 module _ (dummy : Way) (a : Call) (σ : Network) (ok : sound ringLimits σ ≡ true) where
   back : view (hold σ) ≡ σ
-  back = view-hold σ (sound-fits σ (facts ringLimits σ ok))
+  back = sound-view σ ok
 
   same-held : MeetsContracts (asCode dummy) → heldOutcome (dummy a σ) ≡ heldOutcome (truly a σ)
   unfolding callRing
