@@ -1,5 +1,6 @@
 -- What a ring call answers, in plain numbers. Assumes nothing.
 use Prim.Native.Nat.{ℕ}
+use mathlib.Core.List.{List}
 use lib.Count.{ones}
 use Rattle.refusal.specs.Number.{numberOf}
 use Rattle.network.specs.declared.Answer.{Answer}
@@ -10,6 +11,7 @@ use Rattle.network.specs.declared.Step.{Step}
 use Rattle.network.specs.declared.Dispatched.{Dispatched}
 use Rattle.network.specs.declared.DispatchStep.{DispatchStep}
 use Rattle.network.specs.Dispatcher.{dispatchRing, answerOf}
+use Rattle.network.specs.Layout.{ringIn}
 use Rattle.network.specs.Runs.{Call}
 use Rattle.dispatch.specs.declared.RingRun.{RingRun}
 use Rattle.site.specs.InPlace.{replyTo}
@@ -18,9 +20,8 @@ use Rattle.by_number.specs.declared.HopsLeft.{HopsLeft}
 use Rattle.by_number.specs.declared.Waiting as C
 use Rattle.by_number.specs.declared.Said.{Said}
 use Rattle.by_number.specs.declared.Told.{Told}
-use Rattle.by_number.specs.declared.Moved.{Moved}
 use Rattle.by_number.specs.declared.Rounds.{Rounds}
-use Rattle.by_number.specs.declared.Ran.{Ran}
+use Rattle.by_number.specs.declared.HeadRan.{HeadRan}
 use Rattle.by_number.specs.Records.{recordFor, recordsFor, recordsIn}
 
 abbrev pub numbers : ℕ → ℕ → ℕ → ℕ → ℕ → Said
@@ -52,9 +53,6 @@ deliveryIn r = record {
 abbrev pub deliveryTo : Call → Ring → Delivery
 deliveryTo a ring = deliveryIn (replyTo a ring)
 
-abbrev pub movedOf : Step → Moved
-movedOf s = record { ring = s .ring; delivery = deliveryIn (s .reply) }
-
 -- what the dispatcher answers, and the ring beside it
 abbrev pub roundsIn : Dispatched → Rounds
 roundsIn d = record {
@@ -68,8 +66,16 @@ roundsIn d = record {
 abbrev pub roundsTo : ℕ → Ring → Rounds
 roundsTo given ring = roundsIn (answerOf (dispatchRing given ring))
 
+-- the ring after a call of the dispatcher, and what C is told
+pub record Ran : Type 0 where
+  pub ring : Ring
+  pub rounds : Rounds
+
 abbrev pub ranOf : DispatchStep → Ran
 ranOf s = record { ring = s .ring; rounds = roundsIn (s .dispatched) }
+
+abbrev pub ranFrom : HeadRan → List ℕ → List ℕ → List ℕ → List ℕ → Ran
+ranFrom r slots lines offers carried = record { ring = ringIn (r .head) slots lines offers carried; rounds = r .rounds }
 
 -- the same of a run whose records are bytes
 abbrev pub ranIn : RingRun → Ran

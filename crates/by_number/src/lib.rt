@@ -6,31 +6,27 @@ pub mod commands;
 pub mod records;
 pub mod tables;
 
-use crate::records::fields_from;
 use crate::records::record_for;
 use crate::records::records_in;
-use batch::sending::Fields;
 use batch::sending::Scale;
-use dispatch::RingRun;
 use network::Answer;
+use network::Cells;
+use network::Head;
+use network::Records;
+use network::Reply;
 use network::Ring;
 use network::RingCall;
 use network::Step;
 use numbers::ChannelNo;
 use numbers::NodeNo;
 ghost use mathlib.Core.Path.{_≡_};
-ghost use Prim.Native.Nat.{_≤_};
 ghost use Rattle.batch.specs.declared.sending.Scale.the-variants.{Tenths, Hundredths};
-ghost use Rattle.batch.specs.Sending.{recordFrom};
-ghost use Rattle.network.specs.Answers.{callOf};
+ghost use Rattle.network.specs.declared.RingCall.the-variants.{AddNode, AddChannel, Start, Receive, Send, Enter, Move, Withdraw};
 ghost use Rattle.network.specs.Counting.{one};
 ghost use Rattle.network.specs.Dispatcher.{dispatchRing, dispatchStepOf};
-ghost use Rattle.network.specs.Layout.{channelRoom, soundRing, stepRing};
+ghost use Rattle.network.specs.Layout.{ringIn, soundRing};
 ghost use Rattle.network.specs.Network.{nodeNo, channelNo};
-ghost use Rattle.network.specs.Runs;
-ghost use Rattle.site.specs.InPlace.{answerTo};
-ghost use Rattle.by_number.specs.Answers.{numbersIn, numbers, toldOf, movedOf, ranOf, ranIn, hopsLeftIn, waitingIn};
-ghost use Rattle.by_number.specs.Records.{fieldsFrom};
+ghost use Rattle.by_number.specs.Answers.{numbersIn, numbers, toldOf, deliveryIn, ranOf, ranFrom, hopsLeftIn, waitingIn};
 
 // A batch record for C, its fields in an order that leaves no padding. The temperature is in hundredths, but in a send in tenths, and in
 // the command of one, in tenths.
@@ -118,15 +114,9 @@ pub struct Told {
     pub refusal: u8,
 }
 
-// The ring after a move, and what it delivered.
-pub struct Moved {
-    pub ring: Ring,
-    pub delivery: Delivery,
-}
-
-// The ring after a call of the dispatcher, and what it answers.
-pub struct Ran {
-    pub ring: Ring,
+// The head of the ring after a call of the dispatcher, and what it answers.
+pub struct HeadRan {
+    pub head: Head,
     pub rounds: Rounds,
 }
 
@@ -174,140 +164,43 @@ pub fn in_numbers(s: Step) -> Told
     Told { ring, refusal }
 }
 
-fn delivery_in(s: Step) -> Moved
-    ensures { λ r. ⌜ r ≡ movedOf s ⌝ }
+// What C is told of a reply.
+pub fn refusal_in(reply: Reply) -> u8
+    ensures { λ r. ⌜ r ≡ numbersIn (reply .answer) .refusal ⌝ }
 {
-    let ring = s.ring;
-    let reply = s.reply;
+    let answer = reply.answer;
+    let said = numbers_in(answer);
+    said.refusal
+}
+
+pub fn delivery_in(reply: Reply) -> Delivery
+    ensures { λ r. ⌜ r ≡ deliveryIn reply ⌝ }
+{
     let answer = reply.answer;
     let said = numbers_in(answer);
     let record = record_for(reply.delivered);
-    let delivery = Delivery {
+    Delivery {
         refusal: said.refusal,
         delivered: said.delivered,
         channel: said.channel,
         record,
-    };
-    Moved { ring, delivery }
+    }
 }
 
-fn rounds_in(run: RingRun) -> Ran
-    requires { ⌜ run .count ≤ channelRoom ⌝ }
-    ensures { λ r. ⌜ r ≡ ranIn run ⌝ }
+pub fn hops_in(answer: Answer) -> HopsLeft
+    ensures { λ r. ⌜ r ≡ hopsLeftIn answer ⌝ }
 {
-    let ring = run.ring;
-    let answer = run.answer;
     let said = numbers_in(answer);
-    let channels = run.channels;
-    let bytes = run.records;
-    let records = records_in(&bytes, run.count);
-    let rounds = Rounds {
-        rounds: run.rounds,
-        refusal: said.refusal,
-        count: run.count,
-        channels,
-        records,
-    };
-    Ran { ring, rounds }
-}
-
-// Any call of which C is told no more than the refusal; the fields are those of a send.
-fn make(ring: Ring, call: RingCall, fields: Fields) -> Told
-    ensures { λ r. ⌜ r ≡ toldOf (stepRing (callOf call fields) ring) ⌝ }
-{
-    in_numbers(by_value::perform(ring, call, fields))
-}
-
-pub fn add_node(ring: Ring, slots: u8) -> Told
-    ensures { λ r. ⌜ r ≡ toldOf (stepRing (Runs.addNode slots) ring) ⌝ }
-{
-    make(ring, RingCall::AddNode(slots), Fields::none())
-}
-
-pub fn add_channel(ring: Ring, sender: u8, receiver: u8) -> Told
-    ensures { λ r. ⌜ r ≡ toldOf (stepRing (Runs.addChannel (nodeNo sender) (nodeNo receiver)) ring) ⌝ }
-{
-    make(
-        ring,
-        RingCall::AddChannel(NodeNo(sender), NodeNo(receiver)),
-        Fields::none(),
-    )
-}
-
-pub fn start(ring: Ring) -> Told
-    ensures { λ r. ⌜ r ≡ toldOf (stepRing Runs.start ring) ⌝ }
-{
-    make(ring, RingCall::Start, Fields::none())
-}
-
-pub fn receive(ring: Ring, channel: u8) -> Told
-    ensures { λ r. ⌜ r ≡ toldOf (stepRing (Runs.receive (channelNo channel)) ring) ⌝ }
-{
-    make(ring, RingCall::Receive(ChannelNo(channel)), Fields::none())
-}
-
-// The record's temperature is in this unit.
-fn send_in(ring: Ring, channel: u8, scale: Scale, record: Record) -> Told
-    ensures { λ r. ⌜ r ≡ toldOf (stepRing (Runs.send (channelNo channel) (recordFrom scale (fieldsFrom «record»))) ring) ⌝ }
-{
-    make(
-        ring,
-        RingCall::Send(ChannelNo(channel), scale),
-        fields_from(record),
-    )
-}
-
-pub fn send(ring: Ring, channel: u8, record: Record) -> Told
-    ensures { λ r. ⌜ r ≡ toldOf (stepRing (Runs.send (channelNo channel) (recordFrom Hundredths (fieldsFrom «record»))) ring) ⌝ }
-{
-    send_in(ring, channel, Scale::Hundredths, record)
-}
-
-pub fn send_tenths(ring: Ring, channel: u8, record: Record) -> Told
-    ensures { λ r. ⌜ r ≡ toldOf (stepRing (Runs.send (channelNo channel) (recordFrom Tenths (fieldsFrom «record»))) ring) ⌝ }
-{
-    send_in(ring, channel, Scale::Tenths, record)
-}
-
-pub fn enter(ring: Ring, node: u8) -> Told
-    ensures { λ r. ⌜ r ≡ toldOf (stepRing (Runs.enter (nodeNo node)) ring) ⌝ }
-{
-    make(ring, RingCall::Enter(NodeNo(node)), Fields::none())
-}
-
-pub fn move_on(ring: Ring, node: u8) -> Moved
-    ensures { λ r. ⌜ r ≡ movedOf (stepRing (Runs.move (nodeNo node)) ring) ⌝ }
-{
-    let made = by_value::perform(ring, RingCall::Move(NodeNo(node)), Fields::none());
-    delivery_in(made)
-}
-
-pub fn withdraw(ring: Ring, channel: u8) -> Told
-    ensures { λ r. ⌜ r ≡ toldOf (stepRing (Runs.withdraw (channelNo channel)) ring) ⌝ }
-{
-    make(ring, RingCall::Withdraw(ChannelNo(channel)), Fields::none())
-}
-
-pub fn dispatch(ring: Ring, rounds: u16) -> Ran
-    ensures { λ r. ⌜ r ≡ ranOf (dispatchStepOf ring (dispatchRing rounds ring)) ⌝ }
-{
-    rounds_in(dispatch::run_on(ring, rounds))
-}
-
-pub fn hops_left(ring: Ring, channel: u8) -> HopsLeft
-    ensures { λ r. ⌜ r ≡ hopsLeftIn (answerTo (Runs.hopsLeft (channelNo channel)) ring) ⌝ }
-{
-    let said = numbers_in(by_value::hops_left(ring, ChannelNo(channel)));
     HopsLeft {
         refusal: said.refusal,
         hops: said.hops,
     }
 }
 
-pub fn waiting_set(ring: Ring, node: u8) -> Waiting
-    ensures { λ r. ⌜ r ≡ waitingIn (answerTo (Runs.waitingSet (nodeNo node)) ring) ⌝ }
+pub fn waiting_in(answer: Answer) -> Waiting
+    ensures { λ r. ⌜ r ≡ waitingIn answer ⌝ }
 {
-    let said = numbers_in(by_value::waiting_set(ring, NodeNo(node)));
+    let said = numbers_in(answer);
     let tasks = questions::waiting_tasks(said.set);
     Waiting {
         set: said.set,
@@ -316,15 +209,117 @@ pub fn waiting_set(ring: Ring, node: u8) -> Waiting
     }
 }
 
-pub fn is_sound(ring: Ring) -> u8
-    ensures { λ r. ⌜ r ≡ one (soundRing ring) ⌝ }
+// The calls by their numbers.
+pub fn add_node(slots: u8) -> RingCall
+    ensures { λ r. ⌜ r ≡ AddNode slots ⌝ }
 {
-    let head = ring.head;
-    let slots = ring.slots;
-    let lines = ring.lines;
-    let offers = ring.offers;
-    let carried = ring.carried;
-    if soundness::is_sound(head, &slots, &lines, &offers, &carried) {
+    RingCall::AddNode(slots)
+}
+
+pub fn add_channel(sender: u8, receiver: u8) -> RingCall
+    ensures { λ r. ⌜ r ≡ AddChannel (nodeNo sender) (nodeNo receiver) ⌝ }
+{
+    RingCall::AddChannel(NodeNo(sender), NodeNo(receiver))
+}
+
+pub fn start() -> RingCall
+    ensures { λ r. ⌜ r ≡ Start ⌝ }
+{
+    RingCall::Start
+}
+
+pub fn receive(channel: u8) -> RingCall
+    ensures { λ r. ⌜ r ≡ Receive (channelNo channel) ⌝ }
+{
+    RingCall::Receive(ChannelNo(channel))
+}
+
+pub fn send(channel: u8) -> RingCall
+    ensures { λ r. ⌜ r ≡ Send (channelNo channel) Hundredths ⌝ }
+{
+    RingCall::Send(ChannelNo(channel), Scale::Hundredths)
+}
+
+pub fn send_tenths(channel: u8) -> RingCall
+    ensures { λ r. ⌜ r ≡ Send (channelNo channel) Tenths ⌝ }
+{
+    RingCall::Send(ChannelNo(channel), Scale::Tenths)
+}
+
+pub fn enter(node: u8) -> RingCall
+    ensures { λ r. ⌜ r ≡ Enter (nodeNo node) ⌝ }
+{
+    RingCall::Enter(NodeNo(node))
+}
+
+pub fn move_on(node: u8) -> RingCall
+    ensures { λ r. ⌜ r ≡ Move (nodeNo node) ⌝ }
+{
+    RingCall::Move(NodeNo(node))
+}
+
+pub fn withdraw(channel: u8) -> RingCall
+    ensures { λ r. ⌜ r ≡ Withdraw (channelNo channel) ⌝ }
+{
+    RingCall::Withdraw(ChannelNo(channel))
+}
+
+pub fn node_no(node: u8) -> NodeNo
+    ensures { λ r. ⌜ r ≡ nodeNo node ⌝ }
+{
+    NodeNo(node)
+}
+
+pub fn channel_no(channel: u8) -> ChannelNo
+    ensures { λ r. ⌜ r ≡ channelNo channel ⌝ }
+{
+    ChannelNo(channel)
+}
+
+// The dispatcher on a ring whose cells and records are lent.
+pub fn dispatch(
+    head: Head,
+    slots: &mut Cells,
+    lines: &mut Cells,
+    offers: &mut Records,
+    carried: &mut Records,
+    given: u16,
+) -> HeadRan
+    ensures { λ r. ⌜ ranFrom r (now (slots .exit)) (now (lines .exit)) (now (offers .exit)) (now (carried .exit))
+        ≡ ranOf (dispatchStepOf (ringIn head (now (slots .entry)) (now (lines .entry)) (now (offers .entry)) (now (carried .entry)))
+        (dispatchRing given (ringIn head (now (slots .entry)) (now (lines .entry)) (now (offers .entry)) (now (carried .entry))))) ⌝ }
+{
+    let mut channels = [0; network::CHANNELS];
+    let mut bytes = [0; network::RECORDS];
+    let run = dispatch::run(
+        head,
+        slots,
+        lines,
+        offers,
+        carried,
+        &mut channels,
+        &mut bytes,
+        given,
+    );
+    let answer = run.answer;
+    let said = numbers_in(answer);
+    let records = records_in(&bytes, run.count);
+    let rounds = Rounds {
+        rounds: run.rounds,
+        refusal: said.refusal,
+        count: run.count,
+        channels,
+        records,
+    };
+    let head = run.head;
+    HeadRan { head, rounds }
+}
+
+pub fn is_sound(head: Head, slots: &Cells, lines: &Cells, offers: &Records, carried: &Records) -> u8
+    ensures { λ r. ⌜ r
+        ≡ one (soundRing (ringIn head (now (slots .entry)) (now (lines .entry)) (now (offers .entry)) (now (carried .entry)))) ⌝ }
+{
+    if soundness::is_sound(head, slots, lines, offers, carried) {
         1
     } else {
         0

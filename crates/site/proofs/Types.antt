@@ -20,11 +20,14 @@ use Rattle.network.proofs.Reply as P
 use Rattle.network.proofs.Reply.Laws as P′
 use Rattle.network.proofs.RingCall as K
 use Rattle.network.proofs.RingCall.Laws as K′
+use Rattle.network.proofs.HeadStep as HS
+use Rattle.network.proofs.HeadStep.Laws as HS′
 use Rattle.network.proofs.Step as S
 use Rattle.network.proofs.Step.Laws as S′
 use Rattle.questions.proofs.Tasks as T
 use Rattle.questions.proofs.Tasks.Laws as T′
 use Rattle.lent.proofs.Params.{Kind, struct-kind, enum-kind}
+use Rattle.site.proofs.Lends.{Headed}
 use Rattle.site.proofs.Walk.{Paired}
 
 abbrev pub node-no : Kind
@@ -74,4 +77,15 @@ dispatch-step = record {
   shaped = refl;
   spelled = λ s. refl;
   parts = λ s fine. (LL.owed DS.the-type DS′.the-laws s _ fine .0, LL.owed DS.the-type DS′.the-laws s _ fine .1 .0);
+}
+
+abbrev pub head-step : Headed reply
+head-step = record {
+  kind = struct-kind HS.the-type HS′.the-laws HS′.the-plain HS′.the-copy;
+  name = HS.the-type .name;
+  head-of = λ s. s .head;
+  out-of = λ s. s .reply;
+  shaped = refl;
+  spelled = λ s. refl;
+  parts = λ s fine. (LL.owed HS.the-type HS′.the-laws s _ fine .0, LL.owed HS.the-type HS′.the-laws s _ fine .1 .0);
 }

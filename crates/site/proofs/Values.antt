@@ -22,9 +22,14 @@ use Rattle.lent.proofs.Params.{Kind, Fine, struct-kind}
 use Rattle.network.specs.declared.Ring.{Ring}
 use Rattle.network.proofs.Ring as R
 use Rattle.network.proofs.Ring.Laws as R′
+use Rattle.network.proofs.Head as D
+use Rattle.network.proofs.Head.Laws as D′
 
 abbrev pub ring : Kind
 ring = struct-kind R.the-type R′.the-laws R′.the-plain R′.the-copy
+
+abbrev pub head : Kind
+head = struct-kind D.the-type D′.the-laws D′.the-plain D′.the-copy
 
 abbrev pub ring-vals : Ring → List Val
 ring-vals h = ring .val h ∷ []

@@ -125,14 +125,28 @@ pub fn dispatch(ring: &mut Ring, rounds: u16) -> Dispatched
 pub fn hops_left(ring: &Ring, channel: ChannelNo) -> Answer
     ensures { λ r. ⌜ r ≡ answerTo (Runs.hopsLeft channel) (now (ring .entry)) ⌝ }
 {
-    by_value::hops_left(*ring, channel)
+    questions::hops_left(
+        ring.head,
+        &ring.slots,
+        &ring.lines,
+        &ring.offers,
+        &ring.carried,
+        channel,
+    )
 }
 
 // The channels on which a node's tasks wait, as a set of bits.
 pub fn waiting_set(ring: &Ring, node: NodeNo) -> Answer
     ensures { λ r. ⌜ r ≡ answerTo (Runs.waitingSet node) (now (ring .entry)) ⌝ }
 {
-    by_value::waiting_set(*ring, node)
+    questions::waiting_set(
+        ring.head,
+        &ring.slots,
+        &ring.lines,
+        &ring.offers,
+        &ring.carried,
+        node,
+    )
 }
 
 // How many tasks of a node wait: the number of ones in its waiting set.
@@ -147,7 +161,15 @@ pub fn perform(ring: &mut Ring, call: RingCall, fields: Fields) -> Reply
     ensures { λ r. ⌜ (now (ring .exit) ≡ ringAfter (callOf call fields) (now (ring .entry)))
         × (r ≡ replyTo (callOf call fields) (now (ring .entry))) ⌝ }
 {
-    let s = by_value::perform(*ring, call, fields);
-    *ring = s.ring;
+    let s = calls::perform(
+        ring.head,
+        &mut ring.slots,
+        &mut ring.lines,
+        &mut ring.offers,
+        &mut ring.carried,
+        call,
+        fields,
+    );
+    ring.head = s.head;
     s.reply
 }

@@ -3,6 +3,7 @@
 use mathlib.Core.Path.{refl}
 use denote.Struct.Laws as LL
 use Rattle.lent.proofs.Params.{Kind, u8-kind, struct-kind}
+use Rattle.site.proofs.Lends.{Headed}
 use Rattle.site.proofs.Walk.{Paired}
 use Rattle.by_number.proofs.Record as R
 use Rattle.by_number.proofs.Record.Laws as R′
@@ -16,12 +17,10 @@ use Rattle.by_number.proofs.BatchFigures as F
 use Rattle.by_number.proofs.BatchFigures.Laws as F′
 use Rattle.by_number.proofs.Rounds as O
 use Rattle.by_number.proofs.Rounds.Laws as O′
-use Rattle.by_number.proofs.Ran as A
-use Rattle.by_number.proofs.Ran.Laws as A′
+use Rattle.by_number.proofs.HeadRan as A
+use Rattle.by_number.proofs.HeadRan.Laws as A′
 use Rattle.by_number.proofs.Told as T
 use Rattle.by_number.proofs.Told.Laws as T′
-use Rattle.by_number.proofs.Moved as M
-use Rattle.by_number.proofs.Moved.Laws as M′
 
 abbrev pub c-record : Kind
 c-record = struct-kind R.the-type R′.the-laws R′.the-plain R′.the-copy
@@ -49,25 +48,14 @@ told = record {
   parts = λ s fine. (LL.owed T.the-type T′.the-laws s _ fine .0, LL.owed T.the-type T′.the-laws s _ fine .1 .0);
 }
 
-abbrev pub moved : Paired delivery
-moved = record {
-  kind = struct-kind M.the-type M′.the-laws M′.the-plain M′.the-copy;
-  name = M.the-type .name;
-  ring-of = λ s. s .ring;
-  out-of = λ s. s .delivery;
-  shaped = refl;
-  spelled = λ s. refl;
-  parts = λ s fine. (LL.owed M.the-type M′.the-laws s _ fine .0, LL.owed M.the-type M′.the-laws s _ fine .1 .0);
-}
-
 abbrev pub rounds : Kind
 rounds = struct-kind O.the-type O′.the-laws O′.the-plain O′.the-copy
 
-abbrev pub ran : Paired rounds
+abbrev pub ran : Headed rounds
 ran = record {
   kind = struct-kind A.the-type A′.the-laws A′.the-plain A′.the-copy;
   name = A.the-type .name;
-  ring-of = λ s. s .ring;
+  head-of = λ s. s .head;
   out-of = λ s. s .rounds;
   shaped = refl;
   spelled = λ s. refl;

@@ -14,6 +14,7 @@
 //
 // One more command of the tape takes nothing here: `commands` of `by_number` reads the tape's own table. A call on a lent table hands it on:
 // its operand and its answer are turned by two functions of `by_number`, and `Handing.antt` of `lent` has the argument.
+use batch::sending::Fields;
 use by_number::BatchFigures;
 use by_number::Command;
 use by_number::Delivery;
@@ -63,9 +64,10 @@ pub extern "C" fn vessel_ring_add_node(ring: &mut Ring, slots: u8) -> u8
     ensures { λ r. ⌜ (now (ring .exit) ≡ ringAfter (Runs.addNode slots) (now (ring .entry)))
         × (r ≡ numberTo (Runs.addNode slots) (now (ring .entry))) ⌝ }
 {
-    let s = by_number::add_node(*ring, slots);
-    *ring = s.ring;
-    s.refusal
+    let call = by_number::add_node(slots);
+    let fields = Fields::none();
+    let reply = site::perform(ring, call, fields);
+    by_number::refusal_in(reply)
 }
 
 #[no_mangle]
@@ -73,9 +75,10 @@ pub extern "C" fn vessel_ring_add_channel(ring: &mut Ring, sender: u8, receiver:
     ensures { λ r. ⌜ (now (ring .exit) ≡ ringAfter (Runs.addChannel (nodeNo sender) (nodeNo receiver)) (now (ring .entry)))
         × (r ≡ numberTo (Runs.addChannel (nodeNo sender) (nodeNo receiver)) (now (ring .entry))) ⌝ }
 {
-    let s = by_number::add_channel(*ring, sender, receiver);
-    *ring = s.ring;
-    s.refusal
+    let call = by_number::add_channel(sender, receiver);
+    let fields = Fields::none();
+    let reply = site::perform(ring, call, fields);
+    by_number::refusal_in(reply)
 }
 
 #[no_mangle]
@@ -83,9 +86,10 @@ pub extern "C" fn vessel_ring_start(ring: &mut Ring) -> u8
     ensures { λ r. ⌜ (now (ring .exit) ≡ ringAfter Runs.start (now (ring .entry)))
         × (r ≡ numberTo Runs.start (now (ring .entry))) ⌝ }
 {
-    let s = by_number::start(*ring);
-    *ring = s.ring;
-    s.refusal
+    let call = by_number::start();
+    let fields = Fields::none();
+    let reply = site::perform(ring, call, fields);
+    by_number::refusal_in(reply)
 }
 
 #[no_mangle]
@@ -93,9 +97,10 @@ pub extern "C" fn vessel_ring_receive(ring: &mut Ring, channel: u8) -> u8
     ensures { λ r. ⌜ (now (ring .exit) ≡ ringAfter (Runs.receive (channelNo channel)) (now (ring .entry)))
         × (r ≡ numberTo (Runs.receive (channelNo channel)) (now (ring .entry))) ⌝ }
 {
-    let s = by_number::receive(*ring, channel);
-    *ring = s.ring;
-    s.refusal
+    let call = by_number::receive(channel);
+    let fields = Fields::none();
+    let reply = site::perform(ring, call, fields);
+    by_number::refusal_in(reply)
 }
 
 // The record's temperature is in hundredths.
@@ -104,9 +109,10 @@ pub extern "C" fn vessel_ring_send(ring: &mut Ring, channel: u8, record: Record)
     ensures { λ r. ⌜ (now (ring .exit) ≡ ringAfter (Runs.send (channelNo channel) (recordFrom Hundredths (fieldsFrom «record»))) (now (ring .entry)))
         × (r ≡ numberTo (Runs.send (channelNo channel) (recordFrom Hundredths (fieldsFrom «record»))) (now (ring .entry))) ⌝ }
 {
-    let s = by_number::send(*ring, channel, record);
-    *ring = s.ring;
-    s.refusal
+    let call = by_number::send(channel);
+    let fields = records::fields_from(record);
+    let reply = site::perform(ring, call, fields);
+    by_number::refusal_in(reply)
 }
 
 // The same with the temperature in tenths.
@@ -115,9 +121,10 @@ pub extern "C" fn vessel_ring_send_tenths(ring: &mut Ring, channel: u8, record: 
     ensures { λ r. ⌜ (now (ring .exit) ≡ ringAfter (Runs.send (channelNo channel) (recordFrom Tenths (fieldsFrom «record»))) (now (ring .entry)))
         × (r ≡ numberTo (Runs.send (channelNo channel) (recordFrom Tenths (fieldsFrom «record»))) (now (ring .entry))) ⌝ }
 {
-    let s = by_number::send_tenths(*ring, channel, record);
-    *ring = s.ring;
-    s.refusal
+    let call = by_number::send_tenths(channel);
+    let fields = records::fields_from(record);
+    let reply = site::perform(ring, call, fields);
+    by_number::refusal_in(reply)
 }
 
 #[no_mangle]
@@ -125,9 +132,10 @@ pub extern "C" fn vessel_ring_enter(ring: &mut Ring, node: u8) -> u8
     ensures { λ r. ⌜ (now (ring .exit) ≡ ringAfter (Runs.enter (nodeNo node)) (now (ring .entry)))
         × (r ≡ numberTo (Runs.enter (nodeNo node)) (now (ring .entry))) ⌝ }
 {
-    let s = by_number::enter(*ring, node);
-    *ring = s.ring;
-    s.refusal
+    let call = by_number::enter(node);
+    let fields = Fields::none();
+    let reply = site::perform(ring, call, fields);
+    by_number::refusal_in(reply)
 }
 
 #[no_mangle]
@@ -135,9 +143,10 @@ pub extern "C" fn vessel_ring_move(ring: &mut Ring, node: u8) -> Delivery
     ensures { λ r. ⌜ (now (ring .exit) ≡ ringAfter (Runs.move (nodeNo node)) (now (ring .entry)))
         × (r ≡ deliveryTo (Runs.move (nodeNo node)) (now (ring .entry))) ⌝ }
 {
-    let s = by_number::move_on(*ring, node);
-    *ring = s.ring;
-    s.delivery
+    let call = by_number::move_on(node);
+    let fields = Fields::none();
+    let reply = site::perform(ring, call, fields);
+    by_number::delivery_in(reply)
 }
 
 #[no_mangle]
@@ -145,9 +154,10 @@ pub extern "C" fn vessel_ring_withdraw(ring: &mut Ring, channel: u8) -> u8
     ensures { λ r. ⌜ (now (ring .exit) ≡ ringAfter (Runs.withdraw (channelNo channel)) (now (ring .entry)))
         × (r ≡ numberTo (Runs.withdraw (channelNo channel)) (now (ring .entry))) ⌝ }
 {
-    let s = by_number::withdraw(*ring, channel);
-    *ring = s.ring;
-    s.refusal
+    let call = by_number::withdraw(channel);
+    let fields = Fields::none();
+    let reply = site::perform(ring, call, fields);
+    by_number::refusal_in(reply)
 }
 
 #[no_mangle]
@@ -155,8 +165,15 @@ pub extern "C" fn vessel_ring_dispatch(ring: &mut Ring, rounds: u16) -> Rounds
     ensures { λ r. ⌜ (now (ring .exit) ≡ afterDispatch (now (ring .entry)) (dispatchRing rounds (now (ring .entry))))
         × (r ≡ roundsTo rounds (now (ring .entry))) ⌝ }
 {
-    let s = by_number::dispatch(*ring, rounds);
-    *ring = s.ring;
+    let s = by_number::dispatch(
+        ring.head,
+        &mut ring.slots,
+        &mut ring.lines,
+        &mut ring.offers,
+        &mut ring.carried,
+        rounds,
+    );
+    ring.head = s.head;
     s.rounds
 }
 
@@ -164,14 +181,18 @@ pub extern "C" fn vessel_ring_dispatch(ring: &mut Ring, rounds: u16) -> Rounds
 pub extern "C" fn vessel_ring_hops_left(ring: &Ring, channel: u8) -> HopsLeft
     ensures { λ r. ⌜ r ≡ hopsLeftIn (answerTo (Runs.hopsLeft (channelNo channel)) (now (ring .entry))) ⌝ }
 {
-    by_number::hops_left(*ring, channel)
+    let channel = by_number::channel_no(channel);
+    let answer = site::hops_left(ring, channel);
+    by_number::hops_in(answer)
 }
 
 #[no_mangle]
 pub extern "C" fn vessel_ring_waiting_set(ring: &Ring, node: u8) -> Waiting
     ensures { λ r. ⌜ r ≡ waitingIn (answerTo (Runs.waitingSet (nodeNo node)) (now (ring .entry))) ⌝ }
 {
-    by_number::waiting_set(*ring, node)
+    let node = by_number::node_no(node);
+    let answer = site::waiting_set(ring, node);
+    by_number::waiting_in(answer)
 }
 
 // 1 where the ring is sound, else 0.
@@ -179,7 +200,13 @@ pub extern "C" fn vessel_ring_waiting_set(ring: &Ring, node: u8) -> Waiting
 pub extern "C" fn vessel_ring_is_sound(ring: &Ring) -> u8
     ensures { λ r. ⌜ r ≡ one (soundRing (now (ring .entry))) ⌝ }
 {
-    by_number::is_sound(*ring)
+    by_number::is_sound(
+        ring.head,
+        &ring.slots,
+        &ring.lines,
+        &ring.offers,
+        &ring.carried,
+    )
 }
 
 // Turns a ring that is held in tenths into hundredths. No ring call.

@@ -4,18 +4,20 @@ use mathlib.Core.Path.{_≡_, refl, sym, ap, _∙_}
 use mathlib.Core.Bool.{Bool, true, false, cond}
 use native.Mathlib.Omega.{arith}
 use lib.Dec.{ltb}
+use denote.Ref.{now}
 use lib.ListN.{length, getD}
 use borrow.Author.Needs.{needs}
 use Rattle.batch.specs.declared.BatchRecord.{BatchRecord}
 use Rattle.batch.specs.Blank.{noRecord}
 use Rattle.network.specs.declared.Ring.{Ring}
 use Rattle.network.specs.declared.Dispatched.{Dispatched}
-use Rattle.network.specs.Layout.{channelRoom, recordAt}
+use Rattle.network.specs.Layout.{channelRoom, recordAt, ringIn}
 use Rattle.network.specs.Dispatch.{Dispatch, afterDispatch, handedOut}
 use Rattle.network.specs.Dispatcher.{dispatchRing, filled, recordsOf, dispatchStepOf}
 use Rattle.network.proofs.Memory.Rows.{getD-tabulate, tabulate-same}
+use Rattle.dispatch.specs.declared.RingRun.{RingRun}
 use Rattle.dispatch.specs.Log.{recordRows, runOn}
-use Rattle.dispatch.proofs.Telling.{count-within, record-told, told-in}
+use Rattle.dispatch.proofs.Telling.{count-within, record-told, told-in, tells}
 use Rattle.by_number.specs.Answers.{ranOf, ranIn, roundsIn}
 use Rattle.by_number.specs.Records.{recordFor, recordsFor, recordsIn}
 use Rattle.by_number.proofs.dispatch.Statement.{statement}
@@ -41,11 +43,21 @@ ran-told given ring =
     rw (same-records given ring)
     (ap (λ (said : Dispatched). record { ring = afterDispatch ring d; rounds = roundsIn said }) (told-in given ring d))
 
-rounds-in-requires : tie.Need-rounds-in-requires
-rounds-in-requires c κs = let a = c .before .args in omega (arith, ap (λ r. r .count) (c .run-on .ensures), count-within (a .rounds) (a .ring))
+-- what was given, from where the run was made, and the ring that its parts were
+abbrev start : tie.After-run → tie.Start
+start c = c .before .before .before .before .before .before .before
+
+abbrev given-ring : tie.After-run → Ring
+given-ring c = let a = start c .args in ringIn (a .head) (now (a .slots)) (now (a .lines)) (now (a .offers)) (now (a .carried))
+
+records-in-requires : tie.Need-records-in-requires
+records-in-requires c κs =
+    let run = c .before .before in omega (arith, ap (λ (r : RingRun). r .count) (tells (start run .args .given) _ (run .run .ensures)), count-within (start run .args .given) (given-ring run))
 
 returns : tie.Need-returns
-returns c = let made = c .before in c .rounds-in .ensures ∙ ap ranIn (made .run-on .ensures) ∙ ran-told _ _
+returns c =
+    let run = c .before .before .before .before in
+    rw (c .before .before .before .numbers-in .ensures, c .before .records-in .ensures) (ap ranIn (tells (start run .args .given) _ (run .run .ensures)) ∙ ran-told _ _)
 
 pub dispatch-spec : {M : Type 1} → statement M
-dispatch-spec = tie.close (tie.spec (λ c κs. search needs) rounds-in-requires returns)
+dispatch-spec = tie.close (tie.spec (λ c κs. search needs) (λ c κs. search needs) records-in-requires returns)

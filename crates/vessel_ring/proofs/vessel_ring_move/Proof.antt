@@ -1,14 +1,15 @@
--- `vessel_ring_move` meets its contract: it is a call in place (InPlace.antt) over `by_number::move_on`. Assumes nothing.
+-- `vessel_ring_move` meets its contract: it hands the ring on to `site::perform` (Performs.antt). Assumes nothing.
 use mathlib.Core.List.{[], _∷_}
-use Rattle.network.specs.Layout.{stepRing}
+use Rattle.network.specs.declared.RingCall.the-variants.{Move}
 use Rattle.network.specs.Network.{nodeNo}
-use Rattle.network.specs.Runs
 use Rattle.lent.proofs.Params.{u8-kind}
-use Rattle.by_number.specs.Answers.{movedOf}
-use Rattle.vessel_ring.proofs.InPlace.{changes}
-use Rattle.vessel_ring.proofs.Types.{delivery, moved}
-use Rattle.by_number.proofs.move_on.Symbol as by-value
-use Rattle.by_number.proofs.move_on.Met.{met}
+use Rattle.by_number.specs.Answers.{deliveryIn}
+use Rattle.by_number.proofs.move_on.Symbol as named
+use Rattle.by_number.proofs.move_on.Met as named-met
+use Rattle.by_number.proofs.delivery_in.Symbol as told
+use Rattle.by_number.proofs.delivery_in.Met as told-met
+use Rattle.vessel_ring.proofs.Performs.{performs}
+use Rattle.vessel_ring.proofs.Types.{delivery}
 use Rattle.vessel_ring.proofs.vessel_ring_move.Key.{name}
 use Rattle.vessel_ring.proofs.vessel_ring_move.Statement.{statement}
 use Rattle.vessel_ring.proofs.vessel_ring_move.Code as code
@@ -16,5 +17,6 @@ use Rattle.vessel_ring.proofs.vessel_ring_move.Code as code
 pub vessel-ring-move-spec : {M : Type 1} → statement M
 unfolding code.routine
 vessel-ring-move-spec 𝓤 H 𝓜 𝓖 𝓡 =
-    changes delivery moved (u8-kind ∷ []) (λ ring a. movedOf (stepRing (Runs.move (nodeNo (a .0))) ring)) 𝓤 H 𝓜 𝓖 𝓡
-    code.env name by-value.name by-value.routine (code.unfolded 𝓤 H 𝓜 𝓡) code.calls-by-number·move-on (met 𝓤 H 𝓜 𝓖 𝓡)
+    performs (u8-kind ∷ []) delivery (λ a. Move (nodeNo (a .0))) deliveryIn 𝓤 H 𝓜 𝓖 𝓡
+    code.env name named.name told.name named.routine told.routine (code.unfolded 𝓤 H 𝓜 𝓡) code.calls-by-number·move-on
+    code.calls-batch·sending·Fields·none code.calls-site·perform code.calls-by-number·delivery-in (named-met.met 𝓤 H 𝓜 𝓖 𝓡) (told-met.met 𝓤 H 𝓜 𝓖 𝓡)

@@ -1,17 +1,18 @@
--- `vessel_ring_send_tenths` meets its contract: it is a call in place (InPlace.antt) over `by_number::send_tenths`. Assumes nothing.
-use mathlib.Core.List.{[], _∷_}
+-- `vessel_ring_send_tenths` meets its contract: it hands the ring on to `site::perform` (Performs.antt). Assumes nothing.
 use Rattle.batch.specs.declared.sending.Scale.the-variants.{Tenths}
-use Rattle.batch.specs.Sending.{recordFrom}
-use Rattle.network.specs.Layout.{stepRing}
+use Rattle.network.specs.declared.RingCall.the-variants.{Send}
 use Rattle.network.specs.Network.{channelNo}
-use Rattle.network.specs.Runs
 use Rattle.lent.proofs.Params.{u8-kind}
-use Rattle.by_number.specs.Answers.{toldOf}
+use Rattle.by_number.specs.Answers.{numbersIn}
 use Rattle.by_number.specs.Records.{fieldsFrom}
-use Rattle.vessel_ring.proofs.InPlace.{changes}
-use Rattle.vessel_ring.proofs.Types.{c-record, told}
-use Rattle.by_number.proofs.send_tenths.Symbol as by-value
-use Rattle.by_number.proofs.send_tenths.Met.{met}
+use Rattle.by_number.proofs.send_tenths.Symbol as named
+use Rattle.by_number.proofs.send_tenths.Met as named-met
+use Rattle.by_number.proofs.records.fields_from.Symbol as made
+use Rattle.by_number.proofs.records.fields_from.Met as made-met
+use Rattle.by_number.proofs.refusal_in.Symbol as told
+use Rattle.by_number.proofs.refusal_in.Met as told-met
+use Rattle.vessel_ring.proofs.Performs.{sends}
+use Rattle.vessel_ring.proofs.Types.{c-record}
 use Rattle.vessel_ring.proofs.vessel_ring_send_tenths.Key.{name}
 use Rattle.vessel_ring.proofs.vessel_ring_send_tenths.Statement.{statement}
 use Rattle.vessel_ring.proofs.vessel_ring_send_tenths.Code as code
@@ -19,6 +20,7 @@ use Rattle.vessel_ring.proofs.vessel_ring_send_tenths.Code as code
 pub vessel-ring-send-tenths-spec : {M : Type 1} → statement M
 unfolding code.routine
 vessel-ring-send-tenths-spec 𝓤 H 𝓜 𝓖 𝓡 =
-    changes u8-kind told (u8-kind ∷ c-record ∷ [])
-    (λ ring a. toldOf (stepRing (Runs.send (channelNo (a .0)) (recordFrom Tenths (fieldsFrom (a .1 .0)))) ring)) 𝓤 H 𝓜 𝓖 𝓡
-    code.env name by-value.name by-value.routine (code.unfolded 𝓤 H 𝓜 𝓡) code.calls-by-number·send-tenths (met 𝓤 H 𝓜 𝓖 𝓡)
+    sends u8-kind c-record u8-kind (λ k. Send (channelNo k) Tenths) fieldsFrom (λ r. numbersIn (r .answer) .refusal) 𝓤 H 𝓜 𝓖 𝓡
+    code.env name named.name made.name told.name named.routine made.routine told.routine (code.unfolded 𝓤 H 𝓜 𝓡) code.calls-by-number·send-tenths
+    code.calls-by-number·records·fields-from code.calls-site·perform code.calls-by-number·refusal-in
+    (named-met.met 𝓤 H 𝓜 𝓖 𝓡) (made-met.met 𝓤 H 𝓜 𝓖 𝓡) (told-met.met 𝓤 H 𝓜 𝓖 𝓡)

@@ -1,14 +1,14 @@
--- `vessel_ring_withdraw` meets its contract: it is a call in place (InPlace.antt) over `by_number::withdraw`. Assumes nothing.
+-- `vessel_ring_withdraw` meets its contract: it hands the ring on to `site::perform` (Performs.antt). Assumes nothing.
 use mathlib.Core.List.{[], _∷_}
-use Rattle.network.specs.Layout.{stepRing}
+use Rattle.network.specs.declared.RingCall.the-variants.{Withdraw}
 use Rattle.network.specs.Network.{channelNo}
-use Rattle.network.specs.Runs
 use Rattle.lent.proofs.Params.{u8-kind}
-use Rattle.by_number.specs.Answers.{toldOf}
-use Rattle.vessel_ring.proofs.InPlace.{changes}
-use Rattle.vessel_ring.proofs.Types.{told}
-use Rattle.by_number.proofs.withdraw.Symbol as by-value
-use Rattle.by_number.proofs.withdraw.Met.{met}
+use Rattle.by_number.specs.Answers.{numbersIn}
+use Rattle.by_number.proofs.withdraw.Symbol as named
+use Rattle.by_number.proofs.withdraw.Met as named-met
+use Rattle.by_number.proofs.refusal_in.Symbol as told
+use Rattle.by_number.proofs.refusal_in.Met as told-met
+use Rattle.vessel_ring.proofs.Performs.{performs}
 use Rattle.vessel_ring.proofs.vessel_ring_withdraw.Key.{name}
 use Rattle.vessel_ring.proofs.vessel_ring_withdraw.Statement.{statement}
 use Rattle.vessel_ring.proofs.vessel_ring_withdraw.Code as code
@@ -16,5 +16,6 @@ use Rattle.vessel_ring.proofs.vessel_ring_withdraw.Code as code
 pub vessel-ring-withdraw-spec : {M : Type 1} → statement M
 unfolding code.routine
 vessel-ring-withdraw-spec 𝓤 H 𝓜 𝓖 𝓡 =
-    changes u8-kind told (u8-kind ∷ []) (λ ring a. toldOf (stepRing (Runs.withdraw (channelNo (a .0))) ring)) 𝓤 H 𝓜 𝓖 𝓡
-    code.env name by-value.name by-value.routine (code.unfolded 𝓤 H 𝓜 𝓡) code.calls-by-number·withdraw (met 𝓤 H 𝓜 𝓖 𝓡)
+    performs (u8-kind ∷ []) u8-kind (λ a. Withdraw (channelNo (a .0))) (λ r. numbersIn (r .answer) .refusal) 𝓤 H 𝓜 𝓖 𝓡
+    code.env name named.name told.name named.routine told.routine (code.unfolded 𝓤 H 𝓜 𝓡) code.calls-by-number·withdraw
+    code.calls-batch·sending·Fields·none code.calls-site·perform code.calls-by-number·refusal-in (named-met.met 𝓤 H 𝓜 𝓖 𝓡) (told-met.met 𝓤 H 𝓜 𝓖 𝓡)
