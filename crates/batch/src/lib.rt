@@ -18,13 +18,15 @@ ghost use Rattle.batch.specs.Same.{sameBatch};
 #[repr(C)]
 pub struct BatchNo(pub u32);
 
+// The fields stand in an order that leaves no padding, so that a record is lent and returned to C as it is.
+#[repr(C)]
 pub struct BatchRecord {
     pub batch: BatchNo,
     pub vessel: u8,
-    // Hundredths of a degree Celsius.
-    pub temperature: i16,
     // How many cells of `name` are the name; the rest are the fill, zeros.
     pub name_length: u8,
+    // Hundredths of a degree Celsius.
+    pub temperature: i16,
     pub name: [u8; 32],
 }
 

@@ -20,12 +20,13 @@ pub enum Scale {
     Hundredths,
 }
 
-// A send's fields as its command has them: a record's, but for the temperature, which is in the command's unit.
+// A send's fields as its command has them: a record's, but for the temperature, which is in the command's unit. They lie as a record does.
+#[repr(C)]
 pub struct Fields {
     pub batch: BatchNo,
     pub vessel: u8,
-    pub temperature: i16,
     pub name_length: u8,
+    pub temperature: i16,
     pub name: [u8; 32],
 }
 

@@ -4,7 +4,6 @@
 use crate::tables::turned_cell;
 use batch::BatchRecord;
 use batch::sending;
-use by_number::Told;
 use network::Answer;
 use network::Records;
 use network::Reply;
@@ -17,7 +16,6 @@ ghost use Rattle.batch.specs.Blank.{noRecord};
 ghost use Rattle.network.specs.Answers.{stepOf};
 ghost use Rattle.network.specs.Layout.{recordRoom};
 ghost use Rattle.wire.specs.Bytes.{Bytes};
-ghost use Rattle.by_number.specs.Answers.{toldOf};
 ghost use Rattle.convert.specs.TurnedRing.{turnRing};
 ghost use Rattle.convert.specs.RingPass.{turnedRecord, turnedRecords, recordsInTenths};
 
@@ -83,13 +81,6 @@ pub fn turned(ring: Ring) -> Step
         carried,
     };
     answered(after, Answer::Done)
-}
-
-// The same in plain numbers, for C.
-pub fn turned_told(ring: Ring) -> Told
-    ensures { λ r. ⌜ r ≡ toldOf (stepOf ring (turnRing ring)) ⌝ }
-{
-    by_number::in_numbers(turned(ring))
 }
 
 // The same on a lent ring.

@@ -13,24 +13,24 @@ use Rattle.batch.specs.declared.BatchRecord.{BatchRecord}
 use Rattle.batch.specs.Blank.{noRecord}
 use Rattle.wire.specs.Bytes.{little, twos}
 use Rattle.wire.specs.Record.{recordLength, recordBytes, recordIn, RecordFits}
+use Rattle.network.specs.declared.Dispatched.{Dispatched}
 use Rattle.network.specs.declared.Ring.{Ring}
 use Rattle.network.specs.Counting.{one, tabulate}
 use Rattle.network.specs.Network.{nodeCount}
 use Rattle.network.specs.Calls.{Delivery, done, delivered, hopsAre, waitingAre, Outcome, refused, accepted}
 use Rattle.network.specs.Runs.{Call}
 use Rattle.network.specs.Layout.{channelRoom, recordRoom, rows, padded, recordAt, view, soundRing, callRing}
-use Rattle.network.specs.Dispatch.{Dispatch, notRun, ran, handedBy, deliveries, handedOut, roundsMade, spelled}
-use Rattle.network.specs.Dispatcher.{dispatchRing, filled, channelsOf, recordsOf, answered, answerOf}
+use Rattle.network.specs.Dispatch.{Dispatch, notRun, ran, afterDispatch, handedBy, deliveries, handedOut, roundsMade, spelled}
+use Rattle.network.specs.Dispatcher.{dispatchRing, filled, channelsOf, recordsOf, answered, answerOf, dispatchStep}
 use Rattle.network.proofs.Ground.Splits.{by-test, by-less}
 use Rattle.network.proofs.Ground.Numbers.{map-append}
-use Rattle.network.proofs.Memory.Rows.{getD-blanks, tabulate-put, row-rows, rows-put, putRow}
+use Rattle.network.proofs.Memory.Rows.{getD-blanks, tabulate-put, tabulate-same, row-rows, rows-put, putRow}
 use Rattle.network.proofs.Memory.Held.{record-kept, sound-ring}
 use Rattle.network.proofs.Promises.Dispatch.{Going, none-go, go, going-round, going-times}
 use Rattle.updates.specs.Flat.{recorded}
 use Rattle.updates.proofs.Records.{recorded-row}
 use Rattle.dispatch.specs.declared.HeadRun.{HeadRun}
-use Rattle.dispatch.specs.declared.RingRun.{RingRun}
-use Rattle.dispatch.specs.Log.{Log, logOf, logged, loggedAll, recordRows, runOn}
+use Rattle.dispatch.specs.Log.{Log, logOf, logged, loggedAll, recordRows, recordsIn, Kept, keptOf, toldFrom}
 use Rattle.dispatch.specs.Rounds.{CanGo, Ran}
 use Rattle.dispatch.proofs.Going.{can-begin, made, can-go-on, gone}
 
@@ -171,7 +171,7 @@ module _ (given : ℕ) (ring : Ring) where
   count-within = handed-fit .few
 
   -- the records read off their bytes, as many as there are, with blanks behind them
-  pub record-told : (i : ℕ) → i < channelRoom →
+  record-told : (i : ℕ) → i < channelRoom →
       cond (ltb i (length handed)) (recordAt (recordRows handed) i) noRecord ≡ getD (recordsOf handed) i noRecord
   record-told i l =
       by-less i (length handed)
@@ -184,20 +184,21 @@ module _ (given : ℕ) (ring : Ring) where
       (sym (List·getD-eq-default (recordsOf handed) noRecord (omega (arith, beyond, length-map handed (λ (d : Delivery). d .«record»))))))
 
   -- the answer, by what it tells
-  pub told-in : (d : Dispatch Ring) → answered (answerOf d .answer) (answerOf d .rounds) (handedOut d) ≡ answerOf d
+  told-in : (d : Dispatch Ring) → answered (answerOf d .answer) (answerOf d .rounds) (handedOut d) ≡ answerOf d
   told-in (notRun r) = refl
   told-in (ran rounds ds next) = refl
 
   -- what was kept from zeros on is what the deliveries are
-  pub tells : {r : HeadRun} {next : Ring} {channels records : List ℕ} →
-      Ran given ring (replicate channelRoom 0) (replicate recordRoom 0) r next (logOf channels records (r .count)) →
-      _≡_ {A = RingRun}
-      (record { ring = next; answer = r .answer; rounds = r .rounds; count = r .count; channels = channels; records = records })
-      (runOn given ring)
-  tells {r} {next} {channels} {records} w =
-      let all : logOf channels records (r .count) ≡ logFor handed =
-      w .log-is ∙ ap (loggedAll handed) none-kept ∙ kept-all handed (handed-fit .each) [] (omega (arith, handed-fit .few)) in
-      let many : r .count ≡ length handed = ap (λ l. l .count) all in
-      let on : channels ≡ filled 0 (channelsOf handed) = ap (λ l. l .channels) all in
-      let bytes : records ≡ recordRows handed = ap (λ l. l .records) all in
-      rw (w .ring-is, w .answer-is, w .rounds-are, many, on, bytes) refl
+  pub keeps : {r : HeadRun} {next : Ring} {log : Log} →
+      Ran given ring (replicate channelRoom 0) (replicate recordRoom 0) r next log →
+      _≡_ {A = Kept} (record { ring = next; answer = r .answer; rounds = r .rounds; log = log }) (keptOf ring (dispatchRing given ring))
+  keeps w =
+      let all = w .log-is ∙ ap (loggedAll handed) none-kept ∙ kept-all handed (handed-fit .each) [] (omega (arith, handed-fit .few)) in
+      rw (w .ring-is, w .answer-is, w .rounds-are, all) refl
+
+  -- and, with its records read, what the dispatcher answers
+  pub tells : toldFrom (keptOf ring (dispatchRing given ring)) ≡ dispatchStep given ring
+  tells =
+      let d : Dispatch Ring = dispatchRing given ring in
+      rw (tabulate-same channelRoom _ (λ i. getD (recordsOf handed) i noRecord) record-told)
+      (ap (λ (said : Dispatched). record { ring = afterDispatch ring d; dispatched = said }) (told-in d))

@@ -8,7 +8,9 @@ use batch::BatchRecord;
 use network::Answer;
 use network::ByChannel;
 use network::Cells;
+use network::Dispatched;
 use network::Head;
+use network::HeadDispatched;
 use network::Records;
 use network::Reply;
 use network::Ring;
@@ -25,9 +27,10 @@ ghost use lib.ListN.{length};
 ghost use Rattle.network.specs.Answers.{deliveredIn};
 ghost use Rattle.network.specs.Dispatch.{listed};
 ghost use Rattle.network.specs.Dispatch as Dispatch;
-ghost use Rattle.network.specs.Layout.{channelRoom, recordAt, ringIn};
+ghost use Rattle.network.specs.Dispatcher.{dispatchIn, dispatchStep};
+ghost use Rattle.network.specs.Layout.{channelRoom, ringIn};
 ghost use Rattle.network.specs.Runs;
-ghost use Rattle.dispatch.specs.Log.{logOf, loggedAll, runOn};
+ghost use Rattle.dispatch.specs.Log.{logOf, loggedAll, recordsIn};
 ghost use Rattle.dispatch.specs.Rounds.{CanGo, Went, Ran, isMoving, noneMoving};
 
 // The head of the ring between two tries, and how many deliveries there were.
@@ -37,22 +40,11 @@ struct Progress {
 }
 
 // The head of the ring after a call of the dispatcher, its answer, the rounds that it made and how many deliveries there were.
-pub struct HeadRun {
-    pub head: Head,
-    pub answer: Answer,
-    pub rounds: u16,
-    pub count: u8,
-}
-
-// The same with the ring by value, and the deliveries: the first `count` of the channels and of the rows of bytes are those of the
-// deliveries, in order, and the rest is zero.
-pub struct RingRun {
-    pub ring: Ring,
-    pub answer: Answer,
-    pub rounds: u16,
-    pub count: u8,
-    pub channels: ByChannel,
-    pub records: Records,
+struct HeadRun {
+    head: Head,
+    answer: Answer,
+    rounds: u16,
+    count: u8,
 }
 
 // The delivery in a reply is kept behind the others; answers how many there are now. Any other reply, a refusal too, leaves no trace.
@@ -195,8 +187,8 @@ fn rounds(
     }
 }
 
-// The dispatcher. It opens as a move does, at node 0, which every started ring has; so it is refused with 25 and then with 8.
-pub fn run(
+// The call, with places for its deliveries that are zero. It opens as a move does, at node 0, which every started ring has; so it is refused with 25 and then with 8.
+fn run(
     head: Head,
     slots: &mut Cells,
     lines: &mut Cells,
@@ -234,50 +226,55 @@ pub fn run(
     )
 }
 
-// The same on a ring by value, with the places of its deliveries.
-pub fn run_on(ring: Ring, given: u16) -> RingRun
-    ensures { λ r. ⌜ r ≡ runOn given ring ⌝ }
+// The records of the first `count` deliveries, read off their bytes, and blanks behind them.
+fn records_in(bytes: &Records, count: u8) -> [BatchRecord; 64]
+    requires { ⌜ count ≤ channelRoom ⌝ }
+    ensures { λ r. ⌜ r ≡ recordsIn (now (bytes .entry)) count ⌝ }
 {
-    let head = ring.head;
-    let mut slots = ring.slots;
-    let mut lines = ring.lines;
-    let mut offers = ring.offers;
-    let mut carried = ring.carried;
+    let none = BatchRecord::none();
+    let mut records = [none; 64];
+    let last = count as usize;
+    let mut i: usize = 0;
+    while i < last {
+        records[i] = updates::record_of(bytes, i);
+        i += 1;
+    }
+    records
+}
+
+// The dispatcher, on a ring whose cells and records are lent.
+pub fn dispatch(
+    head: Head,
+    slots: &mut Cells,
+    lines: &mut Cells,
+    offers: &mut Records,
+    carried: &mut Records,
+    given: u16,
+) -> HeadDispatched
+    ensures { λ r. ⌜ dispatchIn r (now (slots .exit)) (now (lines .exit)) (now (offers .exit)) (now (carried .exit))
+        ≡ dispatchStep given (ringIn head (now (slots .entry)) (now (lines .entry)) (now (offers .entry)) (now (carried .entry))) ⌝ }
+{
     let mut channels = [0; network::CHANNELS];
-    let mut records = [0; network::RECORDS];
+    let mut bytes = [0; network::RECORDS];
     let run = run(
-        head,
-        &mut slots,
-        &mut lines,
-        &mut offers,
-        &mut carried,
-        &mut channels,
-        &mut records,
-        given,
-    );
-    let head = run.head;
-    let answer = run.answer;
-    let ring = Ring {
         head,
         slots,
         lines,
         offers,
         carried,
-    };
-    RingRun {
-        ring,
+        &mut channels,
+        &mut bytes,
+        given,
+    );
+    let answer = run.answer;
+    let records = records_in(&bytes, run.count);
+    let dispatched = Dispatched {
         answer,
         rounds: run.rounds,
         count: run.count,
         channels,
         records,
-    }
-}
-
-// The record of delivery i, read off its bytes.
-pub fn record_at(records: &Records, i: usize) -> BatchRecord
-    requires { ⌜ i < channelRoom ⌝ }
-    ensures { λ r. ⌜ r ≡ recordAt (now (records .entry)) i ⌝ }
-{
-    updates::record_of(records, i)
+    };
+    let head = run.head;
+    HeadDispatched { head, dispatched }
 }

@@ -1,5 +1,5 @@
--- A call and its answer in code, held against document 01: which call each case of the enum is, and for each case of the answer its
--- number and its values; from these, what a step that the code returns says, and what a run answers. Assumes nothing.
+-- Commands, questions and answers in code, held against document 01: which ring call each command and each question is, and for each case
+-- of the answer its number and its values; from these, what a step that the code returns says, and what a run answers.
 use Prim.Native.Nat.{ℕ}
 use mathlib.Core.Path.{_≡_}
 use mathlib.Core.Bool.{Bool, true, false, cond}
@@ -13,10 +13,13 @@ use Rattle.batch.specs.declared.BatchRecord.{BatchRecord}
 use Rattle.batch.specs.declared.sending.Fields.{Fields}
 use Rattle.batch.specs.Blank.{noRecord}
 use Rattle.batch.specs.Sending.{recordFrom}
+use Rattle.command.specs.declared.Action.{Action}
+use Rattle.command.specs.declared.Action.the-variants.{AddNode, AddChannel, Start, Receive, Send, Enter, Move, Withdraw}
+use Rattle.command.specs.declared.Command.{Command}
+use Rattle.command.specs.declared.Question.{Question}
+use Rattle.command.specs.declared.Question.the-variants.{HopsLeft, WaitingSet}
 use Rattle.numbers.specs.declared.ChannelNo.{ChannelNo}
 use Rattle.network.specs.declared.Ring.{Ring}
-use Rattle.network.specs.declared.RingCall.{RingCall}
-use Rattle.network.specs.declared.RingCall.the-variants.{AddNode, AddChannel, Start, Receive, Send, Enter, Move, Withdraw, HopsLeft, WaitingSet}
 use Rattle.network.specs.declared.Answer.{Answer}
 use Rattle.network.specs.declared.Answer.the-variants.{Done, Delivered, Hops, Waiting, Refused}
 use Rattle.network.specs.declared.Reply.{Reply}
@@ -24,18 +27,24 @@ use Rattle.network.specs.declared.Step.{Step}
 use Rattle.network.specs.Calls.{Event, done, delivered, hopsAre, waitingAre, Delivery, deliveryIn, Outcome, refused, accepted}
 use Rattle.network.specs.Runs.{Call, addNode, addChannel, start, receive, send, enter, move, withdraw, hopsLeft, waitingSet, after}
 
--- the ring call that a case of the enum stands for, with the fields beside it: a send is of the record that they make
-abbrev pub callOf : RingCall → Fields → Call
-callOf (AddNode slots) f = addNode slots
-callOf (AddChannel sender receiver) f = addChannel sender receiver
-callOf Start f = start
-callOf (Receive channel) f = receive channel
-callOf (Send channel scale) f = send channel (recordFrom scale f)
-callOf (Enter node) f = enter node
-callOf (Move node) f = move node
-callOf (Withdraw channel) f = withdraw channel
-callOf (HopsLeft channel) f = hopsLeft channel
-callOf (WaitingSet node) f = waitingSet node
+-- the ring call that an action is, with the fields beside it: a send is of the record that they make
+abbrev pub actionCall : Action → Fields → Call
+actionCall (AddNode slots) f = addNode slots
+actionCall (AddChannel sender receiver) f = addChannel sender receiver
+actionCall Start f = start
+actionCall (Receive channel) f = receive channel
+actionCall (Send channel scale) f = send channel (recordFrom scale f)
+actionCall (Enter node) f = enter node
+actionCall (Move node) f = move node
+actionCall (Withdraw channel) f = withdraw channel
+
+-- the ring call that a command is, and the one that a question is
+abbrev pub callOf : Command → Call
+callOf c = actionCall (c .action) (c .fields)
+
+abbrev pub questionCall : Question → Call
+questionCall (HopsLeft channel) = hopsLeft channel
+questionCall (WaitingSet node) = waitingSet node
 
 -- document 01's number for an answer: that of the refusal, or 0
 abbrev pub numberIn : Answer → ℕ

@@ -13,11 +13,12 @@ use Rattle.network.specs.declared.Answer.{Answer}
 use Rattle.network.specs.declared.Answer.the-variants.{Done, Refused}
 use Rattle.network.specs.declared.Dispatched.{Dispatched}
 use Rattle.network.specs.declared.DispatchStep.{DispatchStep}
+use Rattle.network.specs.declared.HeadDispatched.{HeadDispatched}
 use Rattle.network.specs.Counting.{tabulate}
 use Rattle.network.specs.Network.{channelNo}
 use Rattle.network.specs.Calls.{Delivery}
 use Rattle.network.specs.Runs.{Call, run}
-use Rattle.network.specs.Layout.{ringLimits, channelRoom, view, freshRing, soundRing, callRing}
+use Rattle.network.specs.Layout.{ringLimits, channelRoom, view, freshRing, soundRing, callRing, ringIn}
 use Rattle.network.specs.Answers.{numberIn}
 use Rattle.network.specs.Dispatch.{Dispatch, notRun, ran, afterDispatch, deliveries, roundsMade, spelled, dispatched, DispatcherKeeps, ActsDemand3}
 use Rattle.network.specs.Promise.{MeetsContracts, returned}
@@ -46,6 +47,13 @@ answerOf (ran rounds ds ring) = answered Done rounds ds
 
 abbrev pub dispatchStepOf : Ring → Dispatch Ring → DispatchStep
 dispatchStepOf ring d = record { ring = afterDispatch ring d; dispatched = answerOf d }
+
+abbrev pub dispatchStep : ℕ → Ring → DispatchStep
+dispatchStep given ring = dispatchStepOf ring (dispatchRing given ring)
+
+-- the ring and the answer, of a head with its answer and of the cells and records that lie apart from it
+abbrev pub dispatchIn : HeadDispatched → List ℕ → List ℕ → List ℕ → List ℕ → DispatchStep
+dispatchIn s slots lines offers carried = record { ring = ringIn (s .head) slots lines offers carried; dispatched = s .dispatched }
 
 -- the deliveries that an answer in code tells; it tells all, if there are no more than the places
 abbrev pub deliveriesIn : Dispatched → List Delivery

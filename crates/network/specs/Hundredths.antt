@@ -10,11 +10,11 @@ use Rattle.batch.specs.declared.sending.Scale.{Scale}
 use Rattle.batch.specs.declared.sending.Scale.the-variants.{Tenths, Hundredths}
 use Rattle.batch.specs.Good.{recordOf}
 use Rattle.batch.specs.Sending.{recordFrom, fieldsOf}
-use Rattle.network.specs.declared.RingCall.the-variants.{Send}
+use Rattle.command.specs.declared.Action.the-variants.{Send}
 use Rattle.network.specs.Calls.{Outcome}
 use Rattle.network.specs.Runs.{Call, receive, enter, move, run}
 use Rattle.network.specs.Layout.{freshRing, callRing}
-use Rattle.network.specs.Answers.{callOf, says, delivers, answers}
+use Rattle.network.specs.Answers.{actionCall, says, delivers, answers}
 use Rattle.network.specs.Edges.{ends, plan, n0, n1, c0, c1, sample}
 use Rattle.network.specs.Withdrawals.{begin, oneWay}
 use Rattle.network.specs.BlankEnds.{Row, row, requested, answered}
@@ -65,8 +65,8 @@ twoWays = begin (1 ∷ 2 ∷ []) (ends 1 0 ∷ ends 1 0 ∷ [])
 
 abbrev pub bothUnits : List Call
 bothUnits =
-    receive c0 ∷ enter n0 ∷ move n0 ∷ callOf (Send c0 Tenths) (reading (pos 612)) ∷ enter n1 ∷ move n1
-    ∷ receive c1 ∷ enter n0 ∷ move n0 ∷ callOf (Send c1 Hundredths) (reading (pos 612)) ∷ enter n1 ∷ move n1 ∷ []
+    receive c0 ∷ enter n0 ∷ move n0 ∷ actionCall (Send c0 Tenths) (reading (pos 612)) ∷ enter n1 ∷ move n1
+    ∷ receive c1 ∷ enter n0 ∷ move n0 ∷ actionCall (Send c1 Hundredths) (reading (pos 612)) ∷ enter n1 ∷ move n1 ∷ []
 
 -- asked of whatever answers ring calls, as in BlankEnds
 module _ {S : Type 0} (after : List Call → S) (step : Call → S → Outcome S) where

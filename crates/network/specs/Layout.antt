@@ -12,6 +12,8 @@ use Rattle.numbers.specs.declared.ChannelNo.{ChannelNo}
 use Rattle.wire.specs.Record.{recordLength, recordBytes, recordIn}
 use Rattle.network.specs.declared.Ring.{Ring}
 use Rattle.network.specs.declared.Head.{Head}
+use Rattle.network.specs.declared.Answer.{Answer}
+use Rattle.network.specs.declared.Reply.{Reply}
 use Rattle.network.specs.declared.Step.{Step}
 use Rattle.network.specs.declared.HeadStep.{HeadStep}
 use Rattle.network.specs.Counting.{one, tabulate}
@@ -20,7 +22,7 @@ use Rattle.network.specs.Sound.{Limits}
 use Rattle.network.specs.Sound
 use Rattle.network.specs.Calls.{Outcome, refused, accepted, unless}
 use Rattle.network.specs.Runs.{Call, call}
-use Rattle.network.specs.Answers.{stepOf}
+use Rattle.network.specs.Answers.{stepOf, replyOf}
 
 -- the limits of this ring
 abbrev pub ringLimits : Limits
@@ -234,9 +236,18 @@ heldOutcome (accepted e σ) = accepted e (hold σ)
 unfoldable pub callRing : Call → Ring → Outcome Ring
 callRing a ring = unless (soundRing ring) (refused UnsoundRing) (heldOutcome (call ringLimits a (view ring)))
 
--- the ring as a call leaves it, and the reply
+-- the ring as a call leaves it, and the reply; each by itself; and the answer to a question, which leaves the ring
 abbrev pub stepRing : Call → Ring → Step
 stepRing a ring = stepOf ring (callRing a ring)
+
+abbrev pub ringAfter : Call → Ring → Ring
+ringAfter a ring = stepRing a ring .ring
+
+abbrev pub replyTo : Call → Ring → Reply
+replyTo a ring = stepRing a ring .reply
+
+abbrev pub answerTo : Call → Ring → Answer
+answerTo a ring = replyOf (callRing a ring) .answer
 
 -- the head with these numbers, in the order of its fields
 abbrev pub headOf : ℕ → ℕ → ℕ → ℕ → ℕ → List ℕ → List ℕ → List ℕ → List ℕ → List ℕ → List ℕ → List ℕ → List ℕ → Head

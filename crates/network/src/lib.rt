@@ -5,9 +5,7 @@
 // is lent as a ring is a value, which the test for a sound ring judges; and a ring can be lent to C, compared and stored as memory. What
 // is large is an array of bytes, which a call is lent where it lies; what is small, the head, goes by value.
 use batch::BatchRecord;
-use batch::sending::Scale;
 use numbers::ChannelNo;
-use numbers::NodeNo;
 use refusal::Refusal;
 use wire;
 ghost use mathlib.Core.Path.{_≡_};
@@ -127,22 +125,6 @@ pub fn one_more(count: u32) -> u32
     count + 1
 }
 
-// The ring calls, with their operands; the fields of a send stand beside the call. (They have a name of 32 bytes, which no enum can hold.)
-pub enum RingCall {
-    AddNode(u8),
-    // Sender and receiver.
-    AddChannel(NodeNo, NodeNo),
-    Start,
-    Receive(ChannelNo),
-    // The unit is that of the temperature in the fields.
-    Send(ChannelNo, Scale),
-    Enter(NodeNo),
-    Move(NodeNo),
-    Withdraw(ChannelNo),
-    HopsLeft(ChannelNo),
-    WaitingSet(NodeNo),
-}
-
 // What a call answers: the refusal, or what an accepted call has to say.
 pub enum Answer {
     Done,
@@ -186,5 +168,11 @@ pub struct Dispatched {
 // The ring after a call of the dispatcher, and what it answers.
 pub struct DispatchStep {
     pub ring: Ring,
+    pub dispatched: Dispatched,
+}
+
+// The same after a call that was lent the cells and the records.
+pub struct HeadDispatched {
+    pub head: Head,
     pub dispatched: Dispatched,
 }

@@ -1,7 +1,8 @@
-// The questions about a ring, which leave it as it is: hops left, the waiting set, and how many tasks wait.
+// The questions about a ring, which leave it as it is: `ask` asks hops left or the waiting set, and `tasks_in` tells how many tasks wait.
 //
-// Each takes the head of a ring by value, with the cells and the records lent where they lie. It opens as every call does, and that makes
+// The head of the ring goes by value, its cells and records are lent where they lie. A question opens as every call does, and that makes
 // all its refusals. The answer is read off the head and, for where a message stands, the cells of the buffers.
+use command::Question;
 use hops;
 use network::Answer;
 use network::Cells;
@@ -17,8 +18,8 @@ use updates::opening::open;
 ghost use mathlib.Core.Path.{_≡_};
 ghost use Prim.Native.Nat.{_≤_, _<_};
 ghost use lib.Count.{ones};
-ghost use Rattle.network.specs.Answers.{replyOf};
-ghost use Rattle.network.specs.Layout.{channelRoom, callRing, ringIn};
+ghost use Rattle.network.specs.Answers.{questionCall};
+ghost use Rattle.network.specs.Layout.{channelRoom, ringIn, answerTo};
 ghost use Rattle.network.specs.Runs.{hopsLeft, waitingSet};
 ghost use Rattle.questions.specs.Asked.{Within, placeIn, hopsIn, waitsBy, waitingIn};
 ghost use Rattle.questions.specs.Tasks.{tasksIn};
@@ -29,8 +30,27 @@ pub enum Tasks {
     Refused(Refusal),
 }
 
+// Asks any of the questions.
+pub fn ask(
+    head: Head,
+    slots: &Cells,
+    lines: &Cells,
+    offers: &Records,
+    carried: &Records,
+    question: Question,
+) -> Answer
+    ensures { λ r. ⌜ r
+        ≡ answerTo (questionCall question)
+        (ringIn head (now (slots .entry)) (now (lines .entry)) (now (offers .entry)) (now (carried .entry))) ⌝ }
+{
+    match question {
+        Question::HopsLeft(k) => hops_left(head, slots, lines, offers, carried, k),
+        Question::WaitingSet(p) => waiting_set(head, slots, lines, offers, carried, p),
+    }
+}
+
 // How many hops the channel's record has still to go, or its request and then the record.
-pub fn hops_left(
+fn hops_left(
     head: Head,
     slots: &Cells,
     lines: &Cells,
@@ -39,8 +59,8 @@ pub fn hops_left(
     channel: ChannelNo,
 ) -> Answer
     ensures { λ r. ⌜ r
-        ≡ replyOf (callRing (hopsLeft channel)
-        (ringIn head (now (slots .entry)) (now (lines .entry)) (now (offers .entry)) (now (carried .entry)))) .answer ⌝ }
+        ≡ answerTo (hopsLeft channel)
+        (ringIn head (now (slots .entry)) (now (lines .entry)) (now (offers .entry)) (now (carried .entry))) ⌝ }
 {
     let subject = Subject::Channel(channel);
     let opening = open(head, slots, lines, offers, carried, subject);
@@ -98,7 +118,7 @@ fn place_of(head: Head, slots: &Cells, cell: u8, entry: u8) -> u8
 }
 
 // The channels whose receiver is the node and that are not resting, as a set of bits, channel 0 being the lowest.
-pub fn waiting_set(
+fn waiting_set(
     head: Head,
     slots: &Cells,
     lines: &Cells,
@@ -107,8 +127,8 @@ pub fn waiting_set(
     node: NodeNo,
 ) -> Answer
     ensures { λ r. ⌜ r
-        ≡ replyOf (callRing (waitingSet node)
-        (ringIn head (now (slots .entry)) (now (lines .entry)) (now (offers .entry)) (now (carried .entry)))) .answer ⌝ }
+        ≡ answerTo (waitingSet node)
+        (ringIn head (now (slots .entry)) (now (lines .entry)) (now (offers .entry)) (now (carried .entry))) ⌝ }
 {
     let subject = Subject::Tasks(node);
     let opening = open(head, slots, lines, offers, carried, subject);

@@ -6,16 +6,16 @@ use mathlib.Core.List.{List}
 use native.Mathlib.Omega.{arith}
 use lib.ListN.{length}
 use Rattle.network.specs.declared.Step.{Step}
-use Rattle.network.specs.Answers.{stepOf}
+use Rattle.network.specs.Answers.{callOf, stepOf}
 use Rattle.network.specs.Calls.{refused}
 use Rattle.network.proofs.Ground.Splits.{by-test, by-less}
-use Rattle.tape.specs.declared.Command.{Command}
+use Rattle.command.specs.declared.Command.{Command}
 use Rattle.tape.specs.declared.ReadAnswer.{ReadAnswer}
 use Rattle.tape.specs.declared.ReadAnswer.the-variants.{Read, End, Refused}
 use Rattle.tape.specs.Tape.{readAt}
 use Rattle.runner.specs.declared.Session.{Session}
-use Rattle.runner.specs.Commands.{commandStep}
 use Rattle.network.specs.Answers.{isRefusal}
+use Rattle.network.specs.Layout.{stepRing}
 use Rattle.runner.specs.Session.{longest, beginning, ended, passed, answered, nextIn, next, lines}
 use Rattle.network.specs.Sound.{oneMore}
 use Rattle.runner.specs.Listing.{byOne, listingOf, toCome, FromTheBeginning}
@@ -42,7 +42,7 @@ module _ (tape : List ℕ) where
 
   same-in : (n : ℕ) (s : Session) (a : ReadAnswer) (c : Command) → Countable (suc n) s
       → nextIn byOne tape s a c ≡ nextIn oneMore tape s a c
-  same-in n s (Read after) c k = answered-same n s (commandStep c (s .ring)) after k
+  same-in n s (Read after) c k = answered-same n s (stepRing (callOf c) (s .ring)) after k
   same-in n s End c k = refl
   same-in n s (Refused r) c k = answered-same n s (stepOf (s .ring) (refused r)) (length tape) k
 
@@ -68,7 +68,7 @@ module _ (tape : List ℕ) where
 
   countable-in : (n : ℕ) (s : Session) (a : ReadAnswer) (c : Command) → Countable (suc n) s
       → Countable n (nextIn byOne tape s a c .session)
-  countable-in n s (Read after) c k = answered-countable n s (commandStep c (s .ring)) after k
+  countable-in n s (Read after) c k = answered-countable n s (stepRing (callOf c) (s .ring)) after k
   countable-in n s End c k = ended-countable n s k
   countable-in n s (Refused r) c k = answered-countable n s (stepOf (s .ring) (refused r)) (length tape) k
 

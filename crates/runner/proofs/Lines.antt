@@ -11,10 +11,11 @@ use lib.ListN.{length, getD, drop, length-append, length-drop}
 use borrow.Author.Tests.{lt-ltb, le-ltb, eq-eqb, ne-eqb}
 use Rattle.refusal.specs.declared.Refusal.{Refusal}
 use Rattle.network.specs.declared.Step.{Step}
-use Rattle.network.specs.Answers.{stepOf}
+use Rattle.network.specs.Answers.{callOf, stepOf}
+use Rattle.network.specs.Layout.{stepRing}
 use Rattle.network.specs.Calls.{refused}
 use Rattle.network.proofs.Ground.Splits.{by-test, by-same, by-less, both-ways}
-use Rattle.tape.specs.declared.Command.{Command}
+use Rattle.command.specs.declared.Command.{Command}
 use Rattle.tape.specs.declared.Reading.{Reading}
 use Rattle.tape.specs.declared.ReadAnswer.{ReadAnswer}
 use Rattle.tape.specs.declared.ReadAnswer.the-variants.{Read, End, Refused}
@@ -23,7 +24,6 @@ use Rattle.tape.specs.Table.{Row, rowOf}
 use Rattle.tape.specs.Tape.{readAt, readRow}
 use Rattle.report.specs.Line.{lineOf, endOf, tooLong}
 use Rattle.runner.specs.declared.Session.{Session}
-use Rattle.runner.specs.Commands.{commandStep}
 use Rattle.runner.specs.Session.{longest, beginning, ended, lastLine, answered, nextIn, next, lines, afterLines, allLines}
 use Rattle.network.specs.Sound.{oneMore}
 use Rattle.runner.specs.Listing.{byOne, listingOf, toCome, TooLongAlone, NothingAfter, LineByLine, NotCut}
@@ -74,7 +74,7 @@ module _ (up : ℕ → ℕ) (tape : List ℕ) where
 
   -- the same by cases, for a tape that is short enough and was read
   pub next-read : {s : Session} {r : Reading} {step : Step} {after : ℕ} → Reads tape s r → r .answer ≡ Read after
-      → step ≡ commandStep (r .command) (s .ring) → next up tape s ≡ answered up tape s step after
+      → step ≡ stepRing (callOf (r .command)) (s .ring) → next up tape s ≡ answered up tape s step after
   next-read {s} {r} h a e =
       next-after s r (h .short) (h .reading) ∙ ap (λ (x : ReadAnswer). nextIn up tape s x (r .command)) a ∙ rw e
 

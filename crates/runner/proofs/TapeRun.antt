@@ -11,12 +11,11 @@ use Rattle.network.specs.Layout.{callRing}
 use Rattle.network.specs.Runs.{Call, run}
 use Rattle.network.specs.Sound.{oneMore}
 use Rattle.network.proofs.Promises.Demand.{ring-demand3}
-use Rattle.tape.specs.declared.Command.{Command}
+use Rattle.command.specs.declared.Command.{Command}
 use Rattle.tape.specs.declared.ReadAnswer.{ReadAnswer}
 use Rattle.tape.specs.declared.ReadAnswer.the-variants.{Read, End, Refused}
 use Rattle.tape.specs.Tape.{readAt}
 use Rattle.runner.specs.declared.Session.{Session}
-use Rattle.runner.specs.Commands.{commandStep}
 use Rattle.runner.specs.Session.{longest, beginning, nextIn, next, afterLines}
 use Rattle.runner.specs.TapeRun.{callThen, callsFrom, RunsItsCalls, TooLongCallsNothing, TapeInOrder}
 use Rattle.runner.proofs.Lines.{next-after, next-too-long}
@@ -44,7 +43,6 @@ module _ (up : ℕ → ℕ) (tape : List ℕ) where
   -- after one line, by what was read
   runs-on : (n : ℕ) → Runs n → (s : Session) (a : ReadAnswer) (c : Command) → s .over ≡ false →
       afterLines up n tape (nextIn up tape s a c .session) .ring ≡ run callRing (callThen a c (callsFrom n tape)) (s .ring)
-  unfolding commandStep
   runs-on n rest s (Read place) c e = rest (nextIn up tape s (Read place) c .session) e
   runs-on n rest s End c e = ap (λ (t : Session). t .ring) (over-stays n (nextIn up tape s End c .session) refl)
   runs-on n rest s (Refused r) c e =

@@ -8,9 +8,9 @@ use Rattle.network.specs.declared.Head.{Head}
 use Rattle.network.specs.declared.Reply.{Reply}
 use Rattle.network.specs.declared.Ring.{Ring}
 use Rattle.network.specs.declared.Step.{Step}
-use Rattle.network.specs.Answers.{replyOf}
+use Rattle.network.specs.Answers.{callOf, replyOf}
 use Rattle.network.specs.Calls
-use Rattle.network.specs.Layout.{ringIn}
+use Rattle.network.specs.Layout.{ringIn, stepRing}
 use Rattle.tape.specs.declared.Reading.{Reading}
 use Rattle.tape.specs.declared.ReadAnswer.the-variants.{Read, End, Refused}
 use Rattle.report.specs.Line.{lineOf, endOf, tooLong}
@@ -18,7 +18,6 @@ use Rattle.runner.specs.declared.Tally.{Tally}
 use Rattle.runner.specs.declared.Line.{Line}
 use Rattle.runner.specs.declared.Session.{Session}
 use Rattle.runner.specs.declared.Turn.{Turn}
-use Rattle.runner.specs.Commands.{commandStep}
 use Rattle.runner.specs.Session.{longest}
 use Rattle.network.specs.Sound.{oneMore}
 use Rattle.runner.specs.Tally.{sessionOf, Begun, closedTally, countedTally, Told, Went}
@@ -41,7 +40,7 @@ module _ (tape : List ℕ) (ring : Ring) (l : Line) {out after : List ℕ} {l' :
       rw (next-too-long oneMore tape (sessionOf ring (l .tally)) h) (record { session = ap (sessionOf ring) (w .tally); line = w .line })
 
   module _ {r : Reading} (h : Reads tape (sessionOf ring (l .tally)) r) where
-    pub ran : {step : Step} {place : ℕ} → r .answer ≡ Read place → step ≡ commandStep (r .command) ring
+    pub ran : {step : Step} {place : ℕ} → r .answer ≡ Read place → step ≡ stepRing (callOf (r .command)) ring
         → CommandLine tape (l .tally) (step .reply) place (l .written) out after l' → Went tape ring l (step .ring) l' out after
     ran {step} a e w =
         rw (next-read oneMore tape h a e) (record { session = ap (sessionOf (step .ring)) (w .tally); line = w .line })

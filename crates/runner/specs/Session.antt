@@ -7,16 +7,15 @@ use mathlib.Core.List.{List, [], _++_}
 use lib.Dec.{ltb}
 use lib.ListN.{length, getD}
 use Rattle.network.specs.declared.Step.{Step}
-use Rattle.network.specs.Answers.{stepOf, isRefusal}
+use Rattle.network.specs.Answers.{callOf, stepOf, isRefusal}
 use Rattle.network.specs.Calls.{refused}
-use Rattle.network.specs.Layout.{freshRing}
-use Rattle.tape.specs.declared.Command.{Command}
+use Rattle.network.specs.Layout.{freshRing, stepRing}
+use Rattle.command.specs.declared.Command.{Command}
 use Rattle.tape.specs.declared.ReadAnswer.{ReadAnswer}
 use Rattle.tape.specs.declared.ReadAnswer.the-variants.{Read, End, Refused}
 use Rattle.tape.specs.Tape.{readAt}
 use Rattle.report.specs.Line.{lineOf, endOf, tooLong}
 use Rattle.runner.specs.declared.Session.{Session}
-use Rattle.runner.specs.Commands.{commandStep}
 
 -- the longest tape that is run
 abbrev pub longest : ℕ
@@ -61,7 +60,7 @@ module _ (up : ℕ → ℕ) where
   -- What is printed after a reading. A command that was read is called on the ring. One that the reader refuses has its line and
   -- counts as refused, and nothing further is read: the next place is the end of the tape. At the end comes the last line.
   abbrev pub nextIn : List ℕ → Session → ReadAnswer → Command → Printed
-  nextIn tape s (Read place) c = answered tape s (commandStep c (s .ring)) place
+  nextIn tape s (Read place) c = answered tape s (stepRing (callOf c) (s .ring)) place
   nextIn tape s (Refused r) c = answered tape s (stepOf (s .ring) (refused r)) (length tape)
   nextIn tape s End c = lastLine (endOf (s .accepted) (s .refused)) s
 

@@ -9,18 +9,17 @@ use Rattle.numbers.specs.declared.ChannelNo.{ChannelNo}
 use Rattle.network.specs.Layout.{freshRing, callRing}
 use Rattle.network.specs.Runs.{Call, run, offeredOn, deliveredOn}
 use Rattle.network.specs.Sound.{oneMore}
-use Rattle.tape.specs.declared.Command.{Command}
+use Rattle.command.specs.declared.Command.{Command}
 use Rattle.tape.specs.declared.ReadAnswer.{ReadAnswer}
 use Rattle.tape.specs.declared.ReadAnswer.the-variants.{Read, End, Refused}
 use Rattle.tape.specs.Tape.{readAt}
 use Rattle.network.specs.Answers.{callOf}
-use Rattle.runner.specs.Commands.{ringCall}
 use Rattle.runner.specs.Session.{longest, beginning, afterLines}
 
 -- the ring calls of the next n lines of a tape from a place on: a command that was read is a call, and what follows it; the end and a
 -- command that the reader refuses are none, and nothing further is read
 abbrev pub callThen : ReadAnswer → Command → (ℕ → List Call) → List Call
-callThen (Read next) c rest = callOf (ringCall (c .action)) (c .fields) ∷ rest next
+callThen (Read next) c rest = callOf c ∷ rest next
 callThen End c rest = []
 callThen (Refused r) c rest = []
 

@@ -8,11 +8,8 @@ use network::Head;
 use network::Records;
 use network::Reply;
 use network::Ring;
-use network::RingCall;
 use refusal::Refusal;
 use report::Put;
-use tape::Action;
-use tape::Command;
 use tape::ReadAnswer;
 ghost use mathlib.Core.Path.{_≡_};
 ghost use Prim.Native.Nat.{_+_, _≤_};
@@ -22,7 +19,6 @@ ghost use Rattle.network.specs.Answers.{replyOf, isRefusal};
 ghost use Rattle.network.specs.Calls;
 ghost use Rattle.network.specs.Layout.{ringIn};
 ghost use Rattle.report.specs.Line.{lineRoom, lineOf, endOf, tooLong};
-ghost use Rattle.runner.specs.Commands.{ringCall};
 ghost use Rattle.runner.specs.Session.{beginning};
 ghost use Rattle.runner.specs.Run.{Ran, Placed, endOfPut};
 ghost use Rattle.runner.specs.Tally.{sessionOf, Begun, closedTally, countedTally, Told, Went};
@@ -103,22 +99,6 @@ fn code_at(tape: &[u8], place: usize) -> u8
     ensures { λ r. ⌜ r ≡ getD (now (tape .entry)) place 0 ⌝ }
 {
     if place < tape.len() { tape[place] } else { 0 }
-}
-
-// The ring call of an action, with its operands.
-fn ring_call(action: Action) -> RingCall
-    ensures { λ r. ⌜ r ≡ ringCall action ⌝ }
-{
-    match action {
-        Action::AddNode(slots) => RingCall::AddNode(slots),
-        Action::AddChannel(from, to) => RingCall::AddChannel(from, to),
-        Action::Start => RingCall::Start,
-        Action::Receive(channel) => RingCall::Receive(channel),
-        Action::Send(channel, scale) => RingCall::Send(channel, scale),
-        Action::Enter(node) => RingCall::Enter(node),
-        Action::Move(node) => RingCall::Move(node),
-        Action::Withdraw(channel) => RingCall::Withdraw(channel),
-    }
 }
 
 // The reply to a command that the reader refused.
@@ -288,10 +268,7 @@ fn next_line(
     match answer {
         ReadAnswer::Read { next } => {
             let command = reading.command;
-            let action = command.action;
-            let fields = command.fields;
-            let call = ring_call(action);
-            let called = calls::perform(head, slots, lines, offers, carried, call, fields);
+            let called = calls::perform(head, slots, lines, offers, carried, command);
             let reply = called.reply;
             let line = told(tape, tally, reply, next, out, at);
             let head = called.head;

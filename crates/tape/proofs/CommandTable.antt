@@ -15,9 +15,9 @@ use Rattle.batch.specs.declared.sending.Fields.{Fields}
 use Rattle.batch.specs.declared.sending.Scale.the-variants.{Tenths, Hundredths}
 use Rattle.wire.specs.Bytes.{numberAt, Bytes}
 use Rattle.wire.specs.Record.{fieldsIn, FieldsFit}
-use Rattle.tape.specs.declared.Action.{Action}
-use Rattle.tape.specs.declared.Action.the-variants.{AddNode, AddChannel, Start, Receive, Send, Enter, Move, Withdraw}
-use Rattle.tape.specs.declared.Command.{Command}
+use Rattle.command.specs.declared.Action.{Action}
+use Rattle.command.specs.declared.Action.the-variants.{AddNode, AddChannel, Start, Receive, Send, Enter, Move, Withdraw}
+use Rattle.command.specs.declared.Command.{Command}
 use Rattle.tape.specs.declared.Parts.{Parts}
 use Rattle.tape.specs.declared.Shape.{Shape}
 use Rattle.tape.specs.Shape.{widthOf, fieldsWith, bytesWith}

@@ -5,8 +5,8 @@ use mathlib.Core.Path.{_≡_}
 use mathlib.Core.List.{List}
 use Rattle.wire.specs.Bytes.{Bytes, overwritten}
 use Rattle.wire.specs.Record.{FieldsFit}
-use Rattle.tape.specs.declared.Action.{Action}
-use Rattle.tape.specs.declared.Command.{Command}
+use Rattle.command.specs.declared.Action.{Action}
+use Rattle.command.specs.declared.Command.{Command}
 use Rattle.tape.specs.declared.ReadAnswer.{ReadAnswer}
 use Rattle.tape.specs.declared.ReadAnswer.the-variants.{Read, End}
 use Rattle.tape.specs.declared.ReadAnswer.the-variants as answer

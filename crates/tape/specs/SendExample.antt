@@ -9,8 +9,8 @@ use Rattle.batch.specs.declared.sending.Fields.{Fields}
 use Rattle.batch.specs.declared.sending.Scale.{Scale}
 use Rattle.batch.specs.declared.sending.Scale.the-variants.{Tenths, Hundredths}
 use Rattle.numbers.specs.Numbers.{channelNo}
-use Rattle.tape.specs.declared.Action.the-variants.{Send}
-use Rattle.tape.specs.declared.Command.{Command}
+use Rattle.command.specs.declared.Action.the-variants.{Send}
+use Rattle.command.specs.declared.Command.{Command}
 use Rattle.tape.specs.Table.{bytesOf}
 use Rattle.tape.specs.Tape.{readAt}
 use Rattle.tape.specs.RoundTrip.{found}

@@ -12,11 +12,10 @@ use lib.Dec.{eqb}
 use lib.ListN.{drop}
 use Rattle.batch.specs.declared.sending.Scale.{Scale}
 use Rattle.batch.specs.declared.sending.Scale.the-variants.{Tenths, Hundredths}
-use Rattle.batch.specs.Sending.{noFields}
 use Rattle.numbers.specs.Numbers.{nodeNo, channelNo}
-use Rattle.tape.specs.declared.Action.{Action}
-use Rattle.tape.specs.declared.Action.the-variants.{AddNode, AddChannel, Start, Receive, Send, Enter, Move, Withdraw}
-use Rattle.tape.specs.declared.Command.{Command}
+use Rattle.command.specs.declared.Action.{Action}
+use Rattle.command.specs.declared.Action.the-variants.{AddNode, AddChannel, Start, Receive, Send, Enter, Move, Withdraw}
+use Rattle.command.specs.declared.Command.{Command}
 use Rattle.tape.specs.declared.Parts.{Parts}
 use Rattle.tape.specs.declared.Row as found
 use Rattle.tape.specs.declared.Shape.{Shape}
@@ -97,10 +96,6 @@ width c = widthOf (shapeOf (c .action))
 
 unfoldable pub bytesOf : Command → List ℕ
 bytesOf c = bytesWith (shapeOf (c .action)) (partsOf (c .action)) (c .fields)
-
--- the command of an action that has no fields
-abbrev pub bareOf : Action → Command
-bareOf a = record { action = a; fields = noFields }
 
 -- the command with the blank fields where its action has none. A command that was read is plain already
 unfoldable pub plain : Command → Command

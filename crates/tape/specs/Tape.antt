@@ -8,17 +8,18 @@ use lib.Dec.{eqb, ltb}
 use lib.ListN.{length, getD, drop}
 use Rattle.refusal.specs.Number.{numberOf}
 use Rattle.refusal.specs.declared.Refusal.the-variants.{UnknownCommand, CommandCut, PlaceBeyondEnd, NoRoomToWrite}
-use Rattle.tape.specs.declared.Action.the-variants.{Start}
-use Rattle.tape.specs.declared.Command.{Command}
+use Rattle.command.specs.declared.Action.the-variants.{Start}
+use Rattle.command.specs.declared.Command.{Command}
 use Rattle.tape.specs.declared.ReadAnswer.{ReadAnswer}
 use Rattle.tape.specs.declared.ReadAnswer.the-variants.{Read, End}
 use Rattle.tape.specs.declared.ReadAnswer.the-variants as answer
 use Rattle.tape.specs.declared.Reading.{Reading}
 use Rattle.tape.specs.declared.Writing.{Writing}
 use Rattle.tape.specs.declared.Writing.the-variants as writing
+use Rattle.command.specs.Bare.{bareOf}
 use Rattle.wire.specs.Bytes.{overwritten}
 use Rattle.tape.specs.Shape.{widthOf}
-use Rattle.tape.specs.Table.{Row, rowOf, commandIn, width, bytesOf, bareOf}
+use Rattle.tape.specs.Table.{Row, rowOf, commandIn, width, bytesOf}
 
 -- document 01's number for each case of an answer: that of the refusal, or 0
 abbrev pub readNumber : ReadAnswer → ℕ

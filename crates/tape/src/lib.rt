@@ -1,8 +1,10 @@
-// The command tape: its commands, a reader and a writer. A tape is a slice of bytes; a command stands at a place of it, its
+// The command tape: a reader and a writer of commands (`command`). A tape is a slice of bytes; a command stands at a place of it, its
 // command byte first, then its operands, low byte first. Both answer what the definitions in specs/ say of every place,
 // every byte and every operand value; what was written reads back, and what was read writes back.
 use batch::sending::Fields;
 use batch::sending::Scale;
+use command::Action;
+use command::Command;
 use numbers::ChannelNo;
 use numbers::NodeNo;
 use refusal::Refusal;
@@ -12,32 +14,12 @@ ghost use Prim.Native.Nat.{_≤_};
 ghost use lib.ListN.{length, drop};
 ghost use Rattle.wire.specs.Bytes.{numberAt, overwritten};
 ghost use Rattle.wire.specs.Record.{fieldsIn};
-ghost use Rattle.tape.specs.declared.Action.the-variants.{Start};
+ghost use Rattle.command.specs.declared.Action.the-variants.{Start};
 ghost use Rattle.tape.specs.declared.Shape.the-variants.{Unknown};
 ghost use Rattle.tape.specs.Shape.{widthOf, carries, fieldsWith, bytesWith};
 ghost use Rattle.tape.specs.Table.{rowOf, rowWith, sendCode, partsOf};
 ghost use Rattle.tape.specs.Tape.{readAt, writeAt, afterWrite, withNone, readNumber, writeNumber};
 ghost use Rattle.tape.specs.RoundTrip.{ReadsBack, WritesBack};
-
-// What a command does, with its operands of one byte, each of any value: slots, sender and receiver, channel or node. A send keeps the
-// unit of its temperature, by which it is one command of the tape or another.
-pub enum Action {
-    AddNode(u8),
-    AddChannel(NodeNo, NodeNo),
-    Start,
-    Receive(ChannelNo),
-    Send(ChannelNo, Scale),
-    Enter(NodeNo),
-    Move(NodeNo),
-    Withdraw(ChannelNo),
-}
-
-// A command of the tape. Only a send has fields, as they stand on the tape; beside every other action stand the blank ones. (They have a
-// name of 32 bytes, which no enum can hold, so they stand beside the action.)
-pub struct Command {
-    pub action: Action,
-    pub fields: Fields,
-}
 
 // What stands at a place of the tape. `next` is the place after the command.
 pub enum ReadAnswer {
@@ -218,11 +200,7 @@ fn fields_in(shape: Shape, bytes: &[u8]) -> Fields
 fn without(answer: ReadAnswer) -> Reading
     ensures { λ r. ⌜ r ≡ withNone answer ⌝ }
 {
-    let fields = Fields::none();
-    let command = Command {
-        action: Action::Start,
-        fields,
-    };
+    let command = command::start();
     Reading { answer, command }
 }
 

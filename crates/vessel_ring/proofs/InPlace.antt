@@ -1,4 +1,4 @@
--- An exported call on a lent ring: `in-place` of `site` over a call of `by_number`. The ring afterwards is the one that the definition
+-- An exported call on a lent ring: `in-place` of `site` over a call of `c_structs`. The ring afterwards is the one that the definition
 -- gives, and the answer is told in numbers. Assumes nothing.
 use mathlib.Core.Path.{_≡_, refl}
 use mathlib.Core.List.{List}

@@ -5,22 +5,22 @@ use denote.Struct.Laws as LL
 use Rattle.lent.proofs.Params.{Kind, u8-kind, struct-kind}
 use Rattle.site.proofs.Lends.{Headed}
 use Rattle.site.proofs.Walk.{Paired}
-use Rattle.by_number.proofs.Record as R
-use Rattle.by_number.proofs.Record.Laws as R′
-use Rattle.by_number.proofs.Delivery as D
-use Rattle.by_number.proofs.Delivery.Laws as D′
-use Rattle.by_number.proofs.HopsLeft as H
-use Rattle.by_number.proofs.HopsLeft.Laws as H′
-use Rattle.by_number.proofs.Waiting as W
-use Rattle.by_number.proofs.Waiting.Laws as W′
-use Rattle.by_number.proofs.BatchFigures as F
-use Rattle.by_number.proofs.BatchFigures.Laws as F′
-use Rattle.by_number.proofs.Rounds as O
-use Rattle.by_number.proofs.Rounds.Laws as O′
-use Rattle.by_number.proofs.HeadRan as A
-use Rattle.by_number.proofs.HeadRan.Laws as A′
-use Rattle.by_number.proofs.Told as T
-use Rattle.by_number.proofs.Told.Laws as T′
+use Rattle.c_structs.proofs.Record as R
+use Rattle.c_structs.proofs.Record.Laws as R′
+use Rattle.c_structs.proofs.Delivery as D
+use Rattle.c_structs.proofs.Delivery.Laws as D′
+use Rattle.c_structs.proofs.HopsLeft as H
+use Rattle.c_structs.proofs.HopsLeft.Laws as H′
+use Rattle.c_structs.proofs.Waiting as W
+use Rattle.c_structs.proofs.Waiting.Laws as W′
+use Rattle.c_structs.proofs.BatchFigures as F
+use Rattle.c_structs.proofs.BatchFigures.Laws as F′
+use Rattle.c_structs.proofs.Rounds as O
+use Rattle.c_structs.proofs.Rounds.Laws as O′
+use Rattle.c_structs.proofs.HeadRan as A
+use Rattle.c_structs.proofs.HeadRan.Laws as A′
+use Rattle.c_structs.proofs.Told as T
+use Rattle.c_structs.proofs.Told.Laws as T′
 
 abbrev pub c-record : Kind
 c-record = struct-kind R.the-type R′.the-laws R′.the-plain R′.the-copy

@@ -4,29 +4,22 @@
 // function takes every value: no byte of a ring, a table, a record, a command or a tape is trusted, a refusal answers its number and leaves
 // everything as it was.
 //
-// One more call on the ring takes
-//
-// - its function in `by_number`, which makes the call by its name;
-// - the exported function here, three lines and its contract, with a proof that names the two functions, the operands and the call
-//   (`proofs/InPlace.antt` has the argument); a question is one line, by `Question.antt` of `site`;
-// - where its answer has a value that no other has, a field of `Said` of `by_number` and of the struct that it answers;
-// - its prototype in the header, and its arm in tests/calls.
-//
-// One more command of the tape takes nothing here: `commands` of `by_number` reads the tape's own table. A call on a lent table hands it on:
-// its operand and its answer are turned by two functions of `by_number`, and `Handing.antt` of `lent` has the argument.
+// An exported call makes a command or a question of its numbers, hands the ring on to `site`, and tells the reply in numbers. One more takes
+// its maker in `c_structs` and the function here, with a proof that names the three functions; where its answer has a value that no other
+// has, a field of `Said` of `c_structs` and of the struct that it answers; its prototype in the header, and its arm in tests/calls. One more
+// command of the tape takes nothing here: `commands` of `c_structs` reads the tape's own table.
+use batch::BatchRecord;
 use batch::sending::Fields;
-use by_number::BatchFigures;
-use by_number::Command;
-use by_number::Delivery;
-use by_number::HopsLeft;
-use by_number::Reading;
-use by_number::Record;
-use by_number::Rounds;
-use by_number::Waiting;
-use by_number::Writing;
-use by_number::commands;
-use by_number::records;
-use by_number::tables;
+use c_structs::BatchFigures;
+use c_structs::Command;
+use c_structs::Delivery;
+use c_structs::HopsLeft;
+use c_structs::Reading;
+use c_structs::Rounds;
+use c_structs::Waiting;
+use c_structs::Writing;
+use c_structs::commands;
+use c_structs::tables;
 use history::Row;
 use network::Ring;
 use runner::Session;
@@ -38,19 +31,16 @@ ghost use Rattle.convert.specs.TurnedTable.{turnTable};
 ghost use Rattle.history.specs.History as History;
 ghost use Rattle.network.specs.Answers.{replyOf};
 ghost use Rattle.network.specs.Counting.{one};
-ghost use Rattle.network.specs.Dispatch.{afterDispatch};
-ghost use Rattle.network.specs.Dispatcher.{dispatchRing};
-ghost use Rattle.network.specs.Layout.{freshRing, soundRing};
+ghost use Rattle.network.specs.Dispatcher.{dispatchStep};
+ghost use Rattle.network.specs.Layout.{freshRing, soundRing, ringAfter, answerTo};
 ghost use Rattle.network.specs.Network.{nodeNo, channelNo};
 ghost use Rattle.network.specs.Runs;
 ghost use Rattle.network.specs.Runs.{after};
-ghost use Rattle.site.specs.InPlace.{ringAfter, answerTo};
 ghost use Rattle.tape.specs.Tape.{readAt};
-ghost use Rattle.by_number.specs.Answers.{numbersIn, numberTo, deliveryTo, roundsTo, hopsLeftIn, waitingIn};
-ghost use Rattle.by_number.specs.Commands.{readingIn, writingTo, afterWriting};
+ghost use Rattle.c_structs.specs.Answers.{numbersIn, numberTo, deliveryTo, roundsTo, hopsLeftIn, waitingIn};
+ghost use Rattle.c_structs.specs.Commands.{readingIn, writingTo, afterWriting};
 ghost use Rattle.vessel_ring.specs.Listed.{Listed};
-ghost use Rattle.by_number.specs.Records.{fieldsFrom, recordOf};
-ghost use Rattle.by_number.specs.Tables.{figuresIn};
+ghost use Rattle.c_structs.specs.Tables.{figuresIn};
 
 #[no_mangle]
 pub extern "C" fn vessel_ring_fresh() -> Ring
@@ -64,10 +54,9 @@ pub extern "C" fn vessel_ring_add_node(ring: &mut Ring, slots: u8) -> u8
     ensures { λ r. ⌜ (now (ring .exit) ≡ ringAfter (Runs.addNode slots) (now (ring .entry)))
         × (r ≡ numberTo (Runs.addNode slots) (now (ring .entry))) ⌝ }
 {
-    let call = by_number::add_node(slots);
-    let fields = Fields::none();
-    let reply = site::perform(ring, call, fields);
-    by_number::refusal_in(reply)
+    let command = command::add_node(slots);
+    let reply = site::perform(ring, command);
+    c_structs::refusal_in(reply)
 }
 
 #[no_mangle]
@@ -75,10 +64,9 @@ pub extern "C" fn vessel_ring_add_channel(ring: &mut Ring, sender: u8, receiver:
     ensures { λ r. ⌜ (now (ring .exit) ≡ ringAfter (Runs.addChannel (nodeNo sender) (nodeNo receiver)) (now (ring .entry)))
         × (r ≡ numberTo (Runs.addChannel (nodeNo sender) (nodeNo receiver)) (now (ring .entry))) ⌝ }
 {
-    let call = by_number::add_channel(sender, receiver);
-    let fields = Fields::none();
-    let reply = site::perform(ring, call, fields);
-    by_number::refusal_in(reply)
+    let command = c_structs::add_channel(sender, receiver);
+    let reply = site::perform(ring, command);
+    c_structs::refusal_in(reply)
 }
 
 #[no_mangle]
@@ -86,10 +74,9 @@ pub extern "C" fn vessel_ring_start(ring: &mut Ring) -> u8
     ensures { λ r. ⌜ (now (ring .exit) ≡ ringAfter Runs.start (now (ring .entry)))
         × (r ≡ numberTo Runs.start (now (ring .entry))) ⌝ }
 {
-    let call = by_number::start();
-    let fields = Fields::none();
-    let reply = site::perform(ring, call, fields);
-    by_number::refusal_in(reply)
+    let command = command::start();
+    let reply = site::perform(ring, command);
+    c_structs::refusal_in(reply)
 }
 
 #[no_mangle]
@@ -97,34 +84,31 @@ pub extern "C" fn vessel_ring_receive(ring: &mut Ring, channel: u8) -> u8
     ensures { λ r. ⌜ (now (ring .exit) ≡ ringAfter (Runs.receive (channelNo channel)) (now (ring .entry)))
         × (r ≡ numberTo (Runs.receive (channelNo channel)) (now (ring .entry))) ⌝ }
 {
-    let call = by_number::receive(channel);
-    let fields = Fields::none();
-    let reply = site::perform(ring, call, fields);
-    by_number::refusal_in(reply)
+    let command = c_structs::receive(channel);
+    let reply = site::perform(ring, command);
+    c_structs::refusal_in(reply)
 }
 
-// The record's temperature is in hundredths.
+// The temperature is in hundredths.
 #[no_mangle]
-pub extern "C" fn vessel_ring_send(ring: &mut Ring, channel: u8, record: Record) -> u8
-    ensures { λ r. ⌜ (now (ring .exit) ≡ ringAfter (Runs.send (channelNo channel) (recordFrom Hundredths (fieldsFrom «record»))) (now (ring .entry)))
-        × (r ≡ numberTo (Runs.send (channelNo channel) (recordFrom Hundredths (fieldsFrom «record»))) (now (ring .entry))) ⌝ }
+pub extern "C" fn vessel_ring_send(ring: &mut Ring, channel: u8, fields: Fields) -> u8
+    ensures { λ r. ⌜ (now (ring .exit) ≡ ringAfter (Runs.send (channelNo channel) (recordFrom Hundredths fields)) (now (ring .entry)))
+        × (r ≡ numberTo (Runs.send (channelNo channel) (recordFrom Hundredths fields)) (now (ring .entry))) ⌝ }
 {
-    let call = by_number::send(channel);
-    let fields = records::fields_from(record);
-    let reply = site::perform(ring, call, fields);
-    by_number::refusal_in(reply)
+    let command = c_structs::send(channel, fields);
+    let reply = site::perform(ring, command);
+    c_structs::refusal_in(reply)
 }
 
 // The same with the temperature in tenths.
 #[no_mangle]
-pub extern "C" fn vessel_ring_send_tenths(ring: &mut Ring, channel: u8, record: Record) -> u8
-    ensures { λ r. ⌜ (now (ring .exit) ≡ ringAfter (Runs.send (channelNo channel) (recordFrom Tenths (fieldsFrom «record»))) (now (ring .entry)))
-        × (r ≡ numberTo (Runs.send (channelNo channel) (recordFrom Tenths (fieldsFrom «record»))) (now (ring .entry))) ⌝ }
+pub extern "C" fn vessel_ring_send_tenths(ring: &mut Ring, channel: u8, fields: Fields) -> u8
+    ensures { λ r. ⌜ (now (ring .exit) ≡ ringAfter (Runs.send (channelNo channel) (recordFrom Tenths fields)) (now (ring .entry)))
+        × (r ≡ numberTo (Runs.send (channelNo channel) (recordFrom Tenths fields)) (now (ring .entry))) ⌝ }
 {
-    let call = by_number::send_tenths(channel);
-    let fields = records::fields_from(record);
-    let reply = site::perform(ring, call, fields);
-    by_number::refusal_in(reply)
+    let command = c_structs::send_tenths(channel, fields);
+    let reply = site::perform(ring, command);
+    c_structs::refusal_in(reply)
 }
 
 #[no_mangle]
@@ -132,10 +116,9 @@ pub extern "C" fn vessel_ring_enter(ring: &mut Ring, node: u8) -> u8
     ensures { λ r. ⌜ (now (ring .exit) ≡ ringAfter (Runs.enter (nodeNo node)) (now (ring .entry)))
         × (r ≡ numberTo (Runs.enter (nodeNo node)) (now (ring .entry))) ⌝ }
 {
-    let call = by_number::enter(node);
-    let fields = Fields::none();
-    let reply = site::perform(ring, call, fields);
-    by_number::refusal_in(reply)
+    let command = c_structs::enter(node);
+    let reply = site::perform(ring, command);
+    c_structs::refusal_in(reply)
 }
 
 #[no_mangle]
@@ -143,10 +126,9 @@ pub extern "C" fn vessel_ring_move(ring: &mut Ring, node: u8) -> Delivery
     ensures { λ r. ⌜ (now (ring .exit) ≡ ringAfter (Runs.move (nodeNo node)) (now (ring .entry)))
         × (r ≡ deliveryTo (Runs.move (nodeNo node)) (now (ring .entry))) ⌝ }
 {
-    let call = by_number::move_on(node);
-    let fields = Fields::none();
-    let reply = site::perform(ring, call, fields);
-    by_number::delivery_in(reply)
+    let command = c_structs::move_on(node);
+    let reply = site::perform(ring, command);
+    c_structs::delivery_in(reply)
 }
 
 #[no_mangle]
@@ -154,45 +136,36 @@ pub extern "C" fn vessel_ring_withdraw(ring: &mut Ring, channel: u8) -> u8
     ensures { λ r. ⌜ (now (ring .exit) ≡ ringAfter (Runs.withdraw (channelNo channel)) (now (ring .entry)))
         × (r ≡ numberTo (Runs.withdraw (channelNo channel)) (now (ring .entry))) ⌝ }
 {
-    let call = by_number::withdraw(channel);
-    let fields = Fields::none();
-    let reply = site::perform(ring, call, fields);
-    by_number::refusal_in(reply)
+    let command = c_structs::withdraw(channel);
+    let reply = site::perform(ring, command);
+    c_structs::refusal_in(reply)
 }
 
 #[no_mangle]
 pub extern "C" fn vessel_ring_dispatch(ring: &mut Ring, rounds: u16) -> Rounds
-    ensures { λ r. ⌜ (now (ring .exit) ≡ afterDispatch (now (ring .entry)) (dispatchRing rounds (now (ring .entry))))
+    ensures { λ r. ⌜ (now (ring .exit) ≡ dispatchStep rounds (now (ring .entry)) .ring)
         × (r ≡ roundsTo rounds (now (ring .entry))) ⌝ }
 {
-    let s = by_number::dispatch(
-        ring.head,
-        &mut ring.slots,
-        &mut ring.lines,
-        &mut ring.offers,
-        &mut ring.carried,
-        rounds,
-    );
-    ring.head = s.head;
-    s.rounds
+    let dispatched = site::dispatch(ring, rounds);
+    c_structs::rounds_in(dispatched)
 }
 
 #[no_mangle]
 pub extern "C" fn vessel_ring_hops_left(ring: &Ring, channel: u8) -> HopsLeft
     ensures { λ r. ⌜ r ≡ hopsLeftIn (answerTo (Runs.hopsLeft (channelNo channel)) (now (ring .entry))) ⌝ }
 {
-    let channel = by_number::channel_no(channel);
-    let answer = site::hops_left(ring, channel);
-    by_number::hops_in(answer)
+    let question = c_structs::hops_left(channel);
+    let answer = site::ask(ring, question);
+    c_structs::hops_in(answer)
 }
 
 #[no_mangle]
 pub extern "C" fn vessel_ring_waiting_set(ring: &Ring, node: u8) -> Waiting
     ensures { λ r. ⌜ r ≡ waitingIn (answerTo (Runs.waitingSet (nodeNo node)) (now (ring .entry))) ⌝ }
 {
-    let node = by_number::node_no(node);
-    let answer = site::waiting_set(ring, node);
-    by_number::waiting_in(answer)
+    let question = c_structs::waiting_set(node);
+    let answer = site::ask(ring, question);
+    c_structs::waiting_in(answer)
 }
 
 // 1 where the ring is sound, else 0.
@@ -200,13 +173,8 @@ pub extern "C" fn vessel_ring_waiting_set(ring: &Ring, node: u8) -> Waiting
 pub extern "C" fn vessel_ring_is_sound(ring: &Ring) -> u8
     ensures { λ r. ⌜ r ≡ one (soundRing (now (ring .entry))) ⌝ }
 {
-    by_number::is_sound(
-        ring.head,
-        &ring.slots,
-        &ring.lines,
-        &ring.offers,
-        &ring.carried,
-    )
+    let sound = site::is_sound(ring);
+    c_structs::flag(sound)
 }
 
 // Turns a ring that is held in tenths into hundredths. No ring call.
@@ -215,17 +183,15 @@ pub extern "C" fn vessel_ring_to_hundredths(ring: &mut Ring) -> u8
     ensures { λ r. ⌜ (now (ring .exit) ≡ after (now (ring .entry)) (turnRing (now (ring .entry))))
         × (r ≡ numbersIn (replyOf (turnRing (now (ring .entry))) .answer) .refusal) ⌝ }
 {
-    let s = convert::rings::turned_told(*ring);
-    *ring = s.ring;
-    s.refusal
+    let reply = convert::rings::turn_ring(ring);
+    c_structs::refusal_in(reply)
 }
 
 #[no_mangle]
-pub extern "C" fn vessel_history_note(table: &mut [Row], record: Record) -> u8
-    ensures { λ r. ⌜ (now (table .exit) ≡ History.note (recordOf «record») (now (table .entry)) .table)
-        × (r ≡ History.outcomeNumber (History.note (recordOf «record») (now (table .entry)) .outcome)) ⌝ }
+pub extern "C" fn vessel_history_note(table: &mut [Row], record: BatchRecord) -> u8
+    ensures { λ r. ⌜ (now (table .exit) ≡ History.note «record» (now (table .entry)) .table)
+        × (r ≡ History.outcomeNumber (History.note «record» (now (table .entry)) .outcome)) ⌝ }
 {
-    let record = records::record_of(record);
     let outcome = history::note(table, record);
     tables::number_in(outcome)
 }

@@ -12,7 +12,7 @@ returns : tie.Need-returns
 returns c =
     let told = c .before .before .before in
     let same =
-    rw (toZ-ofZ {w = w16} {z = told .before .args .«record» .temperature} (record { sfits = told .struct-told .given .1 .1 .0 .1 }))
+    rw (toZ-ofZ {w = w16} {z = told .before .args .«record» .temperature} (record { sfits = told .struct-told .given .1 .1 .1 .0 .1 }))
     at (c .judge-fields .ensures) in
     (same, ap verdictNumber same)
 

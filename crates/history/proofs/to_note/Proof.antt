@@ -24,7 +24,7 @@ returns-2 c =
     let judged = told .before .before in
     let start = judged .before .before .before in
     rw (passed judged, sym (judged .judge .ensures .0) ∙ told .enum-told .given .1)
-    (rw (toZ-ofZ {w = w16} {z = start .args .«record» .temperature} (record { sfits = c .before .struct-told .given .1 .1 .0 .1 })) at (c .note-good .ensures))
+    (rw (toZ-ofZ {w = w16} {z = start .args .«record» .temperature} (record { sfits = c .before .struct-told .given .1 .1 .1 .0 .1 })) at (c .note-good .ensures))
 
 returns-3 : tie.Need-returns-3
 returns-3 c =

@@ -1,16 +1,14 @@
 -- `runner::next_line` meets its contract: what happened, the tape too long, a command run, the tape ended or a command refused by the reader,
 -- is the next line of the session by the law of that name. Assumes nothing.
 use Prim.Native.Nat.{ℕ}
-use mathlib.Core.Path.{_≡_, ap, _∙_}
+use mathlib.Core.Path.{_≡_}
 use mathlib.Core.List.{List}
 use borrow.Author.Needs.{needs}
 use Rattle.network.specs.declared.Ring.{Ring}
-use Rattle.network.specs.declared.RingCall.{RingCall}
 use Rattle.network.specs.declared.Step.{Step}
-use Rattle.network.specs.Answers.{callOf, stepOf}
-use Rattle.network.specs.Layout.{ringIn, stepIn, callRing}
+use Rattle.network.specs.Answers.{callOf}
+use Rattle.network.specs.Layout.{ringIn, stepIn, stepRing}
 use Rattle.runner.specs.declared.Line.{Line}
-use Rattle.runner.specs.Commands.{commandStep}
 use Rattle.runner.specs.Tally.{sessionOf}
 use Rattle.runner.proofs.Lines.{Reads}
 use Rattle.runner.proofs.Turns as turns
@@ -50,13 +48,10 @@ module _ (c : tie.After-read) where
 
 -- a command was read and performed
 module _ (c : tie.After-perform) where
-  abbrev asked : tie.After-ring-call
-  asked =
-      let lent = c .before .before .before .before in
-      lent .before
-
   abbrev found : tie.After-answer
-  found = asked .before .before .before .before
+  found =
+      let lent = c .before .before .before .before in
+      lent .before .before .before
 
   abbrev command-read : tie.After-read
   command-read = found .before .before
@@ -67,12 +62,8 @@ module _ (c : tie.After-perform) where
       let l = c .perform .last in
       stepIn (c .perform .result) (l .1 .0) (l .1 .1 .0) (l .1 .1 .1 .0) (l .1 .1 .1 .1 .0)
 
-  performed : step ≡ commandStep (command-read .read .result .command) (ring (begun command-read))
-  unfolding commandStep
-  performed =
-      let given = ring (begun command-read) in
-      c .perform .ensures
-      ∙ ap (λ (a : RingCall). stepOf given (callRing (callOf a (command-read .read .result .command .fields)) given)) (asked .ring-call .ensures)
+  performed : step ≡ stepRing (callOf (command-read .read .result .command)) (ring (begun command-read))
+  performed = c .perform .ensures
 
 told-requires : tie.Need-told-requires
 told-requires c κs = start (begun (command-read (c .before .before))) .pre
@@ -105,6 +96,6 @@ refused c =
 pub next-line-spec : {M : Type 1} → statement M
 next-line-spec =
     tie.close
-    (tie.spec (λ c κs. search needs) (λ c. search needs) too-long (λ c κs. search needs) (λ c. search needs) (λ c κs. search needs)
+    (tie.spec (λ c κs. search needs) (λ c. search needs) too-long (λ c κs. search needs) (λ c. search needs)
     (λ c κs. search needs) told-requires (λ c. search needs) (λ c κs. search needs) (λ c. search needs) (λ c κs. search needs)
     (λ c κs. search needs) (λ c. search needs) ran (λ c. search needs) ended (λ c. search needs) refused)

@@ -10,7 +10,7 @@ use Rattle.batch.specs.declared.sending.Fields.{Fields}
 use Rattle.wire.specs.Bytes.{numberAt}
 use Rattle.wire.specs.Record.{fieldsIn}
 use Rattle.wire.proofs.Buffer.{tail}
-use Rattle.tape.specs.declared.Command.{Command}
+use Rattle.command.specs.declared.Command.{Command}
 use Rattle.tape.specs.declared.Reading.{Reading}
 use Rattle.tape.specs.declared.Row as made
 use Rattle.tape.specs.Shape.{widthOf, fieldsWith}

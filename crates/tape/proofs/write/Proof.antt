@@ -10,7 +10,7 @@ use borrow.Author.Tests.{lt-ltb, le-ltb}
 use Rattle.wire.specs.Bytes.{overwritten}
 use Rattle.wire.specs.Record.{FieldsFit}
 use Rattle.wire.proofs.Buffer.{tail, lent}
-use Rattle.tape.specs.declared.Command.{Command}
+use Rattle.command.specs.declared.Command.{Command}
 use Rattle.tape.specs.declared.Parts.{Parts}
 use Rattle.tape.specs.declared.Row as made
 use Rattle.tape.specs.declared.Shape.{Shape}

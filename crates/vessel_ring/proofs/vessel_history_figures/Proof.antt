@@ -11,12 +11,12 @@ use Rattle.history.specs.History as History
 use Rattle.history.proofs.Types.{batch-no, figures, row}
 use Rattle.history.proofs.figures_of.Symbol as calls
 use Rattle.history.proofs.figures_of.Met as call-thm
-use Rattle.by_number.specs.Tables.{batchNo}
-use Rattle.by_number.specs.Tables.{figuresIn}
-use Rattle.by_number.proofs.tables.batch_no.Symbol as intos
-use Rattle.by_number.proofs.tables.batch_no.Met as into-thm
-use Rattle.by_number.proofs.tables.figures_in.Symbol as outs
-use Rattle.by_number.proofs.tables.figures_in.Met as out-thm
+use Rattle.c_structs.specs.Tables.{batchNo}
+use Rattle.c_structs.specs.Tables.{figuresIn}
+use Rattle.c_structs.proofs.tables.batch_no.Symbol as intos
+use Rattle.c_structs.proofs.tables.batch_no.Met as into-thm
+use Rattle.c_structs.proofs.tables.figures_in.Symbol as outs
+use Rattle.c_structs.proofs.tables.figures_in.Met as out-thm
 use Rattle.vessel_ring.proofs.vessel_history_figures as exported
 use Rattle.vessel_ring.proofs.vessel_history_figures.Key.{name}
 use Rattle.vessel_ring.proofs.vessel_history_figures.Statement.{statement}
@@ -29,5 +29,5 @@ vessel-history-figures-spec 𝓤 H 𝓜 𝓖 𝓡 =
     (λ t b. History.figures (b .0) t) 𝓤 H 𝓜 𝓖 𝓡
     (λ κs a. exported.clauses 𝓤 H (𝓖 .A) (𝓜 .mem) (𝓡 .run) κs a .ensures tt) (λ κs a ws is. factI 𝓤 _ (emp 𝓤) refl)
     code.env name intos.name calls.name outs.name intos.routine calls.routine outs.routine (code.unfolded 𝓤 H 𝓜 𝓡)
-    code.calls-by-number·tables·batch-no code.calls-history·figures-of code.calls-by-number·tables·figures-in
+    code.calls-c-structs·tables·batch-no code.calls-history·figures-of code.calls-c-structs·tables·figures-in
     (into-thm.met 𝓤 H 𝓜 𝓖 𝓡) (call-thm.met 𝓤 H 𝓜 𝓖 𝓡) (out-thm.met 𝓤 H 𝓜 𝓖 𝓡)

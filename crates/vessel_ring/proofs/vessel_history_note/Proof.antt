@@ -10,11 +10,11 @@ use Rattle.history.specs.History as History
 use Rattle.history.proofs.Types.{batch-record, outcome, row}
 use Rattle.history.proofs.note.Symbol as calls
 use Rattle.history.proofs.note.Met as call-thm
-use Rattle.by_number.specs.Records.{recordOf}
-use Rattle.by_number.proofs.records.record_of.Symbol as intos
-use Rattle.by_number.proofs.records.record_of.Met as into-thm
-use Rattle.by_number.proofs.tables.number_in.Symbol as outs
-use Rattle.by_number.proofs.tables.number_in.Met as out-thm
+use Rattle.c_structs.specs.Records.{recordOf}
+use Rattle.c_structs.proofs.records.record_of.Symbol as intos
+use Rattle.c_structs.proofs.records.record_of.Met as into-thm
+use Rattle.c_structs.proofs.tables.number_in.Symbol as outs
+use Rattle.c_structs.proofs.tables.number_in.Met as out-thm
 use Rattle.vessel_ring.proofs.vessel_history_note as exported
 use Rattle.vessel_ring.proofs.vessel_history_note.Key.{name}
 use Rattle.vessel_ring.proofs.vessel_history_note.Statement.{statement}
@@ -27,5 +27,5 @@ vessel-history-note-spec 𝓤 H 𝓜 𝓖 𝓡 =
     (λ t x. History.note x t .outcome) (λ t x. History.note x t .table) 𝓤 H 𝓜 𝓖 𝓡
     (λ κs a. exported.clauses 𝓤 H (𝓖 .A) (𝓜 .mem) (𝓡 .run) κs a .ensures tt) (λ κs a ws is. factI 𝓤 _ (emp 𝓤) (refl, refl))
     code.env name intos.name calls.name outs.name intos.routine calls.routine outs.routine (code.unfolded 𝓤 H 𝓜 𝓡)
-    code.calls-by-number·records·record-of code.calls-history·note code.calls-by-number·tables·number-in
+    code.calls-c-structs·records·record-of code.calls-history·note code.calls-c-structs·tables·number-in
     (into-thm.met 𝓤 H 𝓜 𝓖 𝓡) (call-thm.met 𝓤 H 𝓜 𝓖 𝓡) (out-thm.met 𝓤 H 𝓜 𝓖 𝓡)

@@ -1,4 +1,4 @@
--- `vessel_ring_dispatch` meets its contract: it lends the ring's fields where they lie (Lends.antt of `site`) to `by_number::dispatch`. Assumes
+-- `vessel_ring_dispatch` meets its contract: it lends the ring's fields where they lie (Lends.antt of `site`) to `c_structs::dispatch`. Assumes
 -- nothing.
 use mathlib.Core.Path.{_≡_, refl, ap}
 use mathlib.Core.List.{[], _∷_}
@@ -8,9 +8,9 @@ use contract.Monad.{factI}
 use Rattle.network.specs.Dispatcher.{dispatchRing, dispatchStepOf}
 use Rattle.lent.proofs.Params.{uint-kind}
 use Rattle.site.proofs.Lends.{lends}
-use Rattle.by_number.specs.Answers.{Ran, ranOf, ranFrom}
-use Rattle.by_number.proofs.dispatch.Symbol as run
-use Rattle.by_number.proofs.dispatch.Met.{met}
+use Rattle.c_structs.specs.Answers.{Ran, ranOf, ranFrom}
+use Rattle.c_structs.proofs.dispatch.Symbol as run
+use Rattle.c_structs.proofs.dispatch.Met.{met}
 use Rattle.vessel_ring.proofs.Types.{rounds, ran}
 use Rattle.vessel_ring.proofs.vessel_ring_dispatch as exported
 use Rattle.vessel_ring.proofs.vessel_ring_dispatch.Key.{name}
@@ -25,4 +25,4 @@ vessel-ring-dispatch-spec 𝓤 H 𝓜 𝓖 𝓡 =
     (λ h x. ranOf (dispatchStepOf h (dispatchRing (x .0) h)) .ring) (λ h x. ranOf (dispatchStepOf h (dispatchRing (x .0) h)) .rounds)
     (λ h x r y₁ y₂ y₃ y₄ told. (ap (λ (z : Ran). z .ring) told, ap (λ (z : Ran). z .rounds) told)) 𝓤 H 𝓜 𝓖 𝓡
     (λ κs a. exported.clauses 𝓤 H (𝓖 .A) (𝓜 .mem) (𝓡 .run) κs a .ensures tt) (λ κs a ws is. factI 𝓤 _ (emp 𝓤) (refl, refl))
-    code.env name run.name run.routine (code.unfolded 𝓤 H 𝓜 𝓡) code.calls-by-number·dispatch (met 𝓤 H 𝓜 𝓖 𝓡)
+    code.env name run.name run.routine (code.unfolded 𝓤 H 𝓜 𝓡) code.calls-c-structs·dispatch (met 𝓤 H 𝓜 𝓖 𝓡)

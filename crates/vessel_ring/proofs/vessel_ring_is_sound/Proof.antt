@@ -1,4 +1,4 @@
--- `vessel_ring_is_sound` meets its contract: it lends the ring's fields where they lie (Looks.antt of `site`) to `by_number::is_sound`. Assumes nothing.
+-- `vessel_ring_is_sound` meets its contract: it lends the ring's fields where they lie (Looks.antt of `site`) to `c_structs::is_sound`. Assumes nothing.
 use mathlib.Core.Path.{refl}
 use mathlib.Core.List.{[]}
 use base.Logic.{emp}
@@ -7,8 +7,8 @@ use Rattle.lent.proofs.Params.{u8-kind}
 use Rattle.site.proofs.Looks.{looks-at}
 use Rattle.network.specs.Counting.{one}
 use Rattle.network.specs.Layout.{soundRing}
-use Rattle.by_number.proofs.is_sound.Symbol as by-value
-use Rattle.by_number.proofs.is_sound.Met.{met}
+use Rattle.c_structs.proofs.is_sound.Symbol as by-value
+use Rattle.c_structs.proofs.is_sound.Met.{met}
 use Rattle.vessel_ring.proofs.vessel_ring_is_sound as exported
 use Rattle.vessel_ring.proofs.vessel_ring_is_sound.Key.{name}
 use Rattle.vessel_ring.proofs.vessel_ring_is_sound.Statement.{statement}
@@ -19,4 +19,4 @@ unfolding code.routine
 vessel-ring-is-sound-spec 𝓤 H 𝓜 𝓖 𝓡 =
     looks-at u8-kind [] (λ ring a. one (soundRing ring)) 𝓤 H 𝓜 𝓖 𝓡
     (λ κs a. exported.clauses 𝓤 H (𝓖 .A) (𝓜 .mem) (𝓡 .run) κs a .ensures tt) (λ κs a ws is. factI 𝓤 _ (emp 𝓤) refl)
-    code.env name by-value.name by-value.routine (code.unfolded 𝓤 H 𝓜 𝓡) code.calls-by-number·is-sound (met 𝓤 H 𝓜 𝓖 𝓡)
+    code.env name by-value.name by-value.routine (code.unfolded 𝓤 H 𝓜 𝓡) code.calls-c-structs·is-sound (met 𝓤 H 𝓜 𝓖 𝓡)

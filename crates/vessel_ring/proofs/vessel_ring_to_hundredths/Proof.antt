@@ -2,7 +2,7 @@
 use mathlib.Core.List.{[]}
 use Rattle.network.specs.Answers.{stepOf}
 use Rattle.lent.proofs.Params.{u8-kind}
-use Rattle.by_number.specs.Answers.{toldOf}
+use Rattle.c_structs.specs.Answers.{toldOf}
 use Rattle.convert.specs.TurnedRing.{turnRing}
 use Rattle.vessel_ring.proofs.InPlace.{changes}
 use Rattle.vessel_ring.proofs.Types.{told}

@@ -1,7 +1,7 @@
 -- `vessel_tape_read` meets its contract: `tape::read` says what is read. Assumes nothing.
 use mathlib.Core.Path.{_∙_, ap}
 use borrow.Author.Needs.{needs}
-use Rattle.by_number.specs.Commands.{readingIn}
+use Rattle.c_structs.specs.Commands.{readingIn}
 use Rattle.vessel_ring.proofs.vessel_tape_read.Statement.{statement}
 use Rattle.vessel_ring.proofs.vessel_tape_read.Tie as tie
 

@@ -10,7 +10,7 @@ use Rattle.wire.proofs.record_in.Tie as tie
 returns : tie.Need-returns
 returns c =
     let read = c .before .before in
-    let held = toZ-ofZ {w = w16} {z = read .fields-in .result .temperature} (record { sfits = c .before .struct-told .given .1 .1 .0 .1 }) in
+    let held = toZ-ofZ {w = w16} {z = read .fields-in .result .temperature} (record { sfits = c .before .struct-told .given .1 .1 .1 .0 .1 }) in
     rw held at (c .record-with .ensures) ∙ ap sameNumbers (read .fields-in .ensures)
 
 pub record-in-spec : {M : Type 1} → statement M

@@ -26,7 +26,7 @@ module _ (c : tie.After-hundredths) where
   told : c .hundredths .result ≡ made (start .args .scale) degrees
   told =
       c .hundredths .ensures
-      ∙ ap (made (start .args .scale)) (toZ-ofZ {w = w16} {z = degrees} (record { sfits = c .before .struct-told .given .1 .1 .0 .1 }))
+      ∙ ap (made (start .args .scale)) (toZ-ofZ {w = w16} {z = degrees} (record { sfits = c .before .struct-told .given .1 .1 .1 .0 .1 }))
 
 returns-2 : tie.Need-returns-2
 returns-2 c =

@@ -64,7 +64,7 @@ module _ (c : tie.After-in-tenths Inv-loop μ-loop) where
 
   tested : c .in-tenths .result ≡ inTenths (recordAt old k .temperature)
   tested =
-      let told = c .before .struct-told .given .1 .1 .0 .1 in
+      let told = c .before .struct-told .given .1 .1 .1 .0 .1 in
       c .in-tenths .ensures
       ∙ ap inTenths (toZ-ofZ {w = w16} {z = read .record-of .result .temperature} (record { sfits = told }))
       ∙ ap (λ (x : BatchRecord). inTenths (x .temperature)) record-is

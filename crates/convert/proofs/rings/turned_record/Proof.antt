@@ -12,7 +12,7 @@ returns : tie.Need-returns
 returns c =
     let cell = c .before .before in
     let x = cell .before .before .args .«record» in
-    let held = toZ-ofZ {w = w16} {z = x .temperature} (record { sfits = cell .before .struct-told .given .1 .1 .0 .1 }) in
+    let held = toZ-ofZ {w = w16} {z = x .temperature} (record { sfits = cell .before .struct-told .given .1 .1 .1 .0 .1 }) in
     rw (toZ-ofZ (sfits-of (cell .turned-cell .ok))) at (c .record-with .ensures)
     ∙ ap (recordWith (c .before .fields-of .result)) (cell .turned-cell .ensures ∙ ap turnedCell held)
     ∙ ap (λ f. recordWith f (turnedCell (x .temperature))) (c .before .fields-of .ensures)

@@ -1,7 +1,7 @@
 -- `rings::turned_told` meets its contract: the answer is told in numbers. Assumes nothing.
 use mathlib.Core.Path.{ap, _∙_}
 use borrow.Author.Needs.{needs}
-use Rattle.by_number.specs.Answers.{toldOf}
+use Rattle.c_structs.specs.Answers.{toldOf}
 use Rattle.convert.proofs.rings.turned_told.Statement.{statement}
 use Rattle.convert.proofs.rings.turned_told.Tie as tie
 

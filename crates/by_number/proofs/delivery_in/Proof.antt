@@ -1,7 +1,0 @@
--- `by_number::delivery_in` meets its contract. Assumes nothing.
-use borrow.Author.Needs.{needs}
-use Rattle.by_number.proofs.delivery_in.Statement.{statement}
-use Rattle.by_number.proofs.delivery_in.Tie as tie
-
-pub delivery-in-spec : {M : Type 1} → statement M
-delivery-in-spec = tie.close (tie.spec (λ c κs. search needs) (λ c κs. search needs) (λ c. rw (c .before .numbers-in .ensures, c .record-for .ensures)))

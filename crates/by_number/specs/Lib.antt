@@ -1,4 +1,0 @@
-pub mod Answers
-pub mod Commands
-pub mod Records
-pub mod Tables

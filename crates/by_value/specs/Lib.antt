@@ -1,2 +1,0 @@
--- What the parts of the calls by value promise.
-pub mod Told

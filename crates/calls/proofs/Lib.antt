@@ -1,2 +1,0 @@
--- The law of the questions.
-pub mod Questions
