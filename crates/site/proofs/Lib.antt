@@ -1,7 +1,7 @@
 pub mod Values
-pub mod Question
 pub mod Types
 pub mod Walk
 pub mod Parts
 pub mod Lends
 pub mod Looks
+pub mod HandsOn

@@ -1,12 +1,7 @@
--- The kinds (Params.antt of `lent`) of what the exported functions take and answer, and the structs of a ring and such a value that the
--- calls by value return. Assumes nothing.
-use mathlib.Core.Path.{refl}
-use denote.Struct.Laws as LL
-use Rattle.lent.proofs.Params.{Kind, u8-kind, struct-kind}
-use Rattle.site.proofs.Lends.{Headed}
-use Rattle.site.proofs.Walk.{Paired}
-use Rattle.c_structs.proofs.Record as R
-use Rattle.c_structs.proofs.Record.Laws as R′
+-- The kinds (Params.antt of `lent`) of what the exported functions take and answer.
+use Rattle.batch.proofs.BatchRecord as R
+use Rattle.batch.proofs.BatchRecord.Laws as R′
+use Rattle.lent.proofs.Params.{Kind, struct-kind}
 use Rattle.c_structs.proofs.Delivery as D
 use Rattle.c_structs.proofs.Delivery.Laws as D′
 use Rattle.c_structs.proofs.HopsLeft as H
@@ -17,13 +12,6 @@ use Rattle.c_structs.proofs.BatchFigures as F
 use Rattle.c_structs.proofs.BatchFigures.Laws as F′
 use Rattle.c_structs.proofs.Rounds as O
 use Rattle.c_structs.proofs.Rounds.Laws as O′
-use Rattle.c_structs.proofs.HeadRan as A
-use Rattle.c_structs.proofs.HeadRan.Laws as A′
-use Rattle.c_structs.proofs.Told as T
-use Rattle.c_structs.proofs.Told.Laws as T′
-
-abbrev pub c-record : Kind
-c-record = struct-kind R.the-type R′.the-laws R′.the-plain R′.the-copy
 
 abbrev pub delivery : Kind
 delivery = struct-kind D.the-type D′.the-laws D′.the-plain D′.the-copy
@@ -37,27 +25,5 @@ waiting = struct-kind W.the-type W′.the-laws W′.the-plain W′.the-copy
 abbrev pub batch-figures : Kind
 batch-figures = struct-kind F.the-type F′.the-laws F′.the-plain F′.the-copy
 
-abbrev pub told : Paired u8-kind
-told = record {
-  kind = struct-kind T.the-type T′.the-laws T′.the-plain T′.the-copy;
-  name = T.the-type .name;
-  ring-of = λ s. s .ring;
-  out-of = λ s. s .refusal;
-  shaped = refl;
-  spelled = λ s. refl;
-  parts = λ s fine. (LL.owed T.the-type T′.the-laws s _ fine .0, LL.owed T.the-type T′.the-laws s _ fine .1 .0);
-}
-
 abbrev pub rounds : Kind
 rounds = struct-kind O.the-type O′.the-laws O′.the-plain O′.the-copy
-
-abbrev pub ran : Headed rounds
-ran = record {
-  kind = struct-kind A.the-type A′.the-laws A′.the-plain A′.the-copy;
-  name = A.the-type .name;
-  head-of = λ s. s .head;
-  out-of = λ s. s .rounds;
-  shaped = refl;
-  spelled = λ s. refl;
-  parts = λ s fine. (LL.owed A.the-type A′.the-laws s _ fine .0, LL.owed A.the-type A′.the-laws s _ fine .1 .0);
-}

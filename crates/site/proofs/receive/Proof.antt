@@ -1,15 +1,12 @@
--- `site::receive` meets its contract: it is a call in place (Walk.antt) over `by_value::receive`. Assumes nothing.
-use mathlib.Core.Path.{refl}
+-- `site::receive` meets its contract: it makes the command and hands the ring on to `perform` (HandsOn.antt).
 use mathlib.Core.List.{[], _∷_}
-use base.Logic.{emp}
-use contract.Monad.{factI}
-use Rattle.network.specs.Layout.{stepRing}
-use Rattle.network.specs.Runs
-use Rattle.by_value.proofs.receive.Symbol as by-value
-use Rattle.by_value.proofs.receive.Met.{met}
-use Rattle.site.proofs.Types.{channel-no, reply, step}
-use Rattle.site.proofs.Walk.{in-place}
-use Rattle.site.proofs.receive as receive
+use Rattle.command.specs.declared.Action.the-variants.{Receive}
+use Rattle.command.specs.Bare.{bareOf}
+use Rattle.command.proofs.receive.Symbol as h
+use Rattle.command.proofs.receive.Met as h-met
+use Rattle.lent.proofs.Around.{called, answered}
+use Rattle.site.proofs.Types.{channel-no, reply}
+use Rattle.site.proofs.HandsOn.{performs}
 use Rattle.site.proofs.receive.Key.{name}
 use Rattle.site.proofs.receive.Statement.{statement}
 use Rattle.site.proofs.receive.Code as code
@@ -17,6 +14,5 @@ use Rattle.site.proofs.receive.Code as code
 pub receive-spec : {M : Type 1} → statement M
 unfolding code.routine
 receive-spec 𝓤 H 𝓜 𝓖 𝓡 =
-    in-place reply step (channel-no ∷ []) (λ ring a. stepRing (Runs.receive (a .0)) ring) 𝓤 H 𝓜 𝓖 𝓡
-    (λ κs a. receive.clauses 𝓤 H (𝓖 .A) (𝓜 .mem) (𝓡 .run) κs a .ensures tt) (λ κs a ws is. factI 𝓤 _ (emp 𝓤) (refl, refl))
-    code.env name by-value.name by-value.routine (code.unfolded 𝓤 H 𝓜 𝓡) code.calls-by-value·receive (met 𝓤 H 𝓜 𝓖 𝓡)
+    performs (channel-no ∷ []) reply (λ a. bareOf (Receive (a .0))) (λ z. z) 𝓤 H 𝓜 𝓖 𝓡
+    code.env name (called h.name h.routine code.calls-command·receive (h-met.met 𝓤 H 𝓜 𝓖 𝓡)) code.calls-site·perform answered (code.unfolded 𝓤 H 𝓜 𝓡)

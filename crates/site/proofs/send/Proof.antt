@@ -1,16 +1,11 @@
--- `site::send` meets its contract: it is a call in place (Walk.antt) over `by_value::send`. Assumes nothing.
-use mathlib.Core.Path.{refl}
+-- `site::send` meets its contract: it makes the command and hands the ring on to `perform` (HandsOn.antt).
 use mathlib.Core.List.{[], _∷_}
-use base.Logic.{emp}
-use contract.Monad.{factI}
-use Rattle.batch.specs.Sending.{recordFrom}
-use Rattle.network.specs.Layout.{stepRing}
-use Rattle.network.specs.Runs
-use Rattle.by_value.proofs.send.Symbol as by-value
-use Rattle.by_value.proofs.send.Met.{met}
-use Rattle.site.proofs.Types.{fields, scale, channel-no, reply, step}
-use Rattle.site.proofs.Walk.{in-place}
-use Rattle.site.proofs.send as send
+use Rattle.command.specs.declared.Action.the-variants.{Send}
+use Rattle.command.proofs.send.Symbol as h
+use Rattle.command.proofs.send.Met as h-met
+use Rattle.lent.proofs.Around.{called, answered}
+use Rattle.site.proofs.Types.{channel-no, scale, fields, reply}
+use Rattle.site.proofs.HandsOn.{performs}
 use Rattle.site.proofs.send.Key.{name}
 use Rattle.site.proofs.send.Statement.{statement}
 use Rattle.site.proofs.send.Code as code
@@ -18,6 +13,5 @@ use Rattle.site.proofs.send.Code as code
 pub send-spec : {M : Type 1} → statement M
 unfolding code.routine
 send-spec 𝓤 H 𝓜 𝓖 𝓡 =
-    in-place reply step (channel-no ∷ scale ∷ fields ∷ []) (λ ring a. stepRing (Runs.send (a .0) (recordFrom (a .1 .0) (a .1 .1 .0))) ring) 𝓤 H 𝓜 𝓖 𝓡
-    (λ κs a. send.clauses 𝓤 H (𝓖 .A) (𝓜 .mem) (𝓡 .run) κs a .ensures tt) (λ κs a ws is. factI 𝓤 _ (emp 𝓤) (refl, refl))
-    code.env name by-value.name by-value.routine (code.unfolded 𝓤 H 𝓜 𝓡) code.calls-by-value·send (met 𝓤 H 𝓜 𝓖 𝓡)
+    performs (channel-no ∷ scale ∷ fields ∷ []) reply (λ a. record { action = Send (a .0) (a .1 .0); fields = a .1 .1 .0 }) (λ z. z) 𝓤 H 𝓜 𝓖 𝓡
+    code.env name (called h.name h.routine code.calls-command·send (h-met.met 𝓤 H 𝓜 𝓖 𝓡)) code.calls-site·perform answered (code.unfolded 𝓤 H 𝓜 𝓡)

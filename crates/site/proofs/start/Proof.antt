@@ -1,15 +1,12 @@
--- `site::start` meets its contract: it is a call in place (Walk.antt) over `by_value::start`. Assumes nothing.
-use mathlib.Core.Path.{refl}
+-- `site::start` meets its contract: it makes the command and hands the ring on to `perform` (HandsOn.antt).
 use mathlib.Core.List.{[]}
-use base.Logic.{emp}
-use contract.Monad.{factI}
-use Rattle.network.specs.Layout.{stepRing}
-use Rattle.network.specs.Runs
-use Rattle.by_value.proofs.start.Symbol as by-value
-use Rattle.by_value.proofs.start.Met.{met}
-use Rattle.site.proofs.Types.{reply, step}
-use Rattle.site.proofs.Walk.{in-place}
-use Rattle.site.proofs.start as start
+use Rattle.command.specs.declared.Action.the-variants.{Start}
+use Rattle.command.specs.Bare.{bareOf}
+use Rattle.command.proofs.start.Symbol as h
+use Rattle.command.proofs.start.Met as h-met
+use Rattle.lent.proofs.Around.{called, answered}
+use Rattle.site.proofs.Types.{reply}
+use Rattle.site.proofs.HandsOn.{performs}
 use Rattle.site.proofs.start.Key.{name}
 use Rattle.site.proofs.start.Statement.{statement}
 use Rattle.site.proofs.start.Code as code
@@ -17,6 +14,5 @@ use Rattle.site.proofs.start.Code as code
 pub start-spec : {M : Type 1} → statement M
 unfolding code.routine
 start-spec 𝓤 H 𝓜 𝓖 𝓡 =
-    in-place reply step [] (λ ring a. stepRing Runs.start ring) 𝓤 H 𝓜 𝓖 𝓡
-    (λ κs a. start.clauses 𝓤 H (𝓖 .A) (𝓜 .mem) (𝓡 .run) κs a .ensures tt) (λ κs a ws is. factI 𝓤 _ (emp 𝓤) (refl, refl))
-    code.env name by-value.name by-value.routine (code.unfolded 𝓤 H 𝓜 𝓡) code.calls-by-value·start (met 𝓤 H 𝓜 𝓖 𝓡)
+    performs [] reply (λ a. bareOf Start) (λ z. z) 𝓤 H 𝓜 𝓖 𝓡
+    code.env name (called h.name h.routine code.calls-command·start (h-met.met 𝓤 H 𝓜 𝓖 𝓡)) code.calls-site·perform answered (code.unfolded 𝓤 H 𝓜 𝓡)

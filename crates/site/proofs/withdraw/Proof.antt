@@ -1,15 +1,12 @@
--- `site::withdraw` meets its contract: it is a call in place (Walk.antt) over `by_value::withdraw`. Assumes nothing.
-use mathlib.Core.Path.{refl}
+-- `site::withdraw` meets its contract: it makes the command and hands the ring on to `perform` (HandsOn.antt).
 use mathlib.Core.List.{[], _∷_}
-use base.Logic.{emp}
-use contract.Monad.{factI}
-use Rattle.network.specs.Layout.{stepRing}
-use Rattle.network.specs.Runs
-use Rattle.by_value.proofs.withdraw.Symbol as by-value
-use Rattle.by_value.proofs.withdraw.Met.{met}
-use Rattle.site.proofs.Types.{channel-no, reply, step}
-use Rattle.site.proofs.Walk.{in-place}
-use Rattle.site.proofs.withdraw as withdraw
+use Rattle.command.specs.declared.Action.the-variants.{Withdraw}
+use Rattle.command.specs.Bare.{bareOf}
+use Rattle.command.proofs.withdraw.Symbol as h
+use Rattle.command.proofs.withdraw.Met as h-met
+use Rattle.lent.proofs.Around.{called, answered}
+use Rattle.site.proofs.Types.{channel-no, reply}
+use Rattle.site.proofs.HandsOn.{performs}
 use Rattle.site.proofs.withdraw.Key.{name}
 use Rattle.site.proofs.withdraw.Statement.{statement}
 use Rattle.site.proofs.withdraw.Code as code
@@ -17,6 +14,5 @@ use Rattle.site.proofs.withdraw.Code as code
 pub withdraw-spec : {M : Type 1} → statement M
 unfolding code.routine
 withdraw-spec 𝓤 H 𝓜 𝓖 𝓡 =
-    in-place reply step (channel-no ∷ []) (λ ring a. stepRing (Runs.withdraw (a .0)) ring) 𝓤 H 𝓜 𝓖 𝓡
-    (λ κs a. withdraw.clauses 𝓤 H (𝓖 .A) (𝓜 .mem) (𝓡 .run) κs a .ensures tt) (λ κs a ws is. factI 𝓤 _ (emp 𝓤) (refl, refl))
-    code.env name by-value.name by-value.routine (code.unfolded 𝓤 H 𝓜 𝓡) code.calls-by-value·withdraw (met 𝓤 H 𝓜 𝓖 𝓡)
+    performs (channel-no ∷ []) reply (λ a. bareOf (Withdraw (a .0))) (λ z. z) 𝓤 H 𝓜 𝓖 𝓡
+    code.env name (called h.name h.routine code.calls-command·withdraw (h-met.met 𝓤 H 𝓜 𝓖 𝓡)) code.calls-site·perform answered (code.unfolded 𝓤 H 𝓜 𝓡)

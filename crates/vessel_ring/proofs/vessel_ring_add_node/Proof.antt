@@ -1,13 +1,16 @@
--- `vessel_ring_add_node` meets its contract: it hands the ring on to `site::perform` (Performs.antt). Assumes nothing.
+-- `vessel_ring_add_node` meets its contract: it makes the command, hands the ring on to `site::perform` (HandsOn.antt of `site`) and tells the
+-- reply.
 use mathlib.Core.List.{[], _∷_}
-use Rattle.network.specs.declared.RingCall.the-variants.{AddNode}
+use Rattle.command.specs.declared.Action.the-variants.{AddNode}
+use Rattle.command.specs.Bare.{bareOf}
+use Rattle.lent.proofs.Around.{called, told}
 use Rattle.lent.proofs.Params.{u8-kind}
+use Rattle.site.proofs.HandsOn.{performs}
 use Rattle.c_structs.specs.Answers.{numbersIn}
-use Rattle.c_structs.proofs.add_node.Symbol as named
-use Rattle.c_structs.proofs.add_node.Met as named-met
-use Rattle.c_structs.proofs.refusal_in.Symbol as told
-use Rattle.c_structs.proofs.refusal_in.Met as told-met
-use Rattle.vessel_ring.proofs.Performs.{performs}
+use Rattle.command.proofs.add_node.Symbol as h
+use Rattle.command.proofs.add_node.Met as h-met
+use Rattle.c_structs.proofs.refusal_in.Symbol as k
+use Rattle.c_structs.proofs.refusal_in.Met as k-met
 use Rattle.vessel_ring.proofs.vessel_ring_add_node.Key.{name}
 use Rattle.vessel_ring.proofs.vessel_ring_add_node.Statement.{statement}
 use Rattle.vessel_ring.proofs.vessel_ring_add_node.Code as code
@@ -15,6 +18,6 @@ use Rattle.vessel_ring.proofs.vessel_ring_add_node.Code as code
 pub vessel-ring-add-node-spec : {M : Type 1} → statement M
 unfolding code.routine
 vessel-ring-add-node-spec 𝓤 H 𝓜 𝓖 𝓡 =
-    performs (u8-kind ∷ []) u8-kind (λ a. AddNode (a .0)) (λ r. numbersIn (r .answer) .refusal) 𝓤 H 𝓜 𝓖 𝓡
-    code.env name named.name told.name named.routine told.routine (code.unfolded 𝓤 H 𝓜 𝓡) code.calls-c-structs·add-node
-    code.calls-batch·sending·Fields·none code.calls-site·perform code.calls-c-structs·refusal-in (named-met.met 𝓤 H 𝓜 𝓖 𝓡) (told-met.met 𝓤 H 𝓜 𝓖 𝓡)
+    performs (u8-kind ∷ []) u8-kind (λ a. bareOf (AddNode (a .0))) (λ r. numbersIn (r .answer) .refusal) 𝓤 H 𝓜 𝓖 𝓡
+    code.env name (called h.name h.routine code.calls-command·add-node (h-met.met 𝓤 H 𝓜 𝓖 𝓡)) code.calls-site·perform
+    (told (called k.name k.routine code.calls-c-structs·refusal-in (k-met.met 𝓤 H 𝓜 𝓖 𝓡))) (code.unfolded 𝓤 H 𝓜 𝓡)

@@ -1,17 +1,21 @@
--- `vessel_ring_dispatch` meets its contract: it lends the ring's fields where they lie (Lends.antt of `site`) to `c_structs::dispatch`. Assumes
--- nothing.
-use mathlib.Core.Path.{_≡_, refl, ap}
+-- `vessel_ring_dispatch` meets its contract: it hands the ring on to `site::dispatch` (HandingOn.antt of `lent`) and tells the answer.
+use mathlib.Core.Path.{refl}
 use mathlib.Core.List.{[], _∷_}
 use mir.Syntax.{w16}
 use base.Logic.{emp}
 use contract.Monad.{factI}
-use Rattle.network.specs.Dispatcher.{dispatchRing, dispatchStepOf}
+use Rattle.network.specs.Dispatcher.{dispatchStep}
+use Rattle.c_structs.specs.Answers.{roundsIn}
+use Rattle.lent.proofs.Around.{called, passed, told}
+use Rattle.lent.proofs.HandingOn.{changes}
 use Rattle.lent.proofs.Params.{uint-kind}
-use Rattle.site.proofs.Lends.{lends}
-use Rattle.c_structs.specs.Answers.{Ran, ranOf, ranFrom}
-use Rattle.c_structs.proofs.dispatch.Symbol as run
-use Rattle.c_structs.proofs.dispatch.Met.{met}
-use Rattle.vessel_ring.proofs.Types.{rounds, ran}
+use Rattle.site.proofs.Types.{dispatched}
+use Rattle.site.proofs.Values.{ring}
+use Rattle.site.proofs.dispatch.Symbol as g
+use Rattle.site.proofs.dispatch.Met as g-met
+use Rattle.c_structs.proofs.rounds_in.Symbol as k
+use Rattle.c_structs.proofs.rounds_in.Met as k-met
+use Rattle.vessel_ring.proofs.Types.{rounds}
 use Rattle.vessel_ring.proofs.vessel_ring_dispatch as exported
 use Rattle.vessel_ring.proofs.vessel_ring_dispatch.Key.{name}
 use Rattle.vessel_ring.proofs.vessel_ring_dispatch.Statement.{statement}
@@ -20,9 +24,7 @@ use Rattle.vessel_ring.proofs.vessel_ring_dispatch.Code as code
 pub vessel-ring-dispatch-spec : {M : Type 1} → statement M
 unfolding code.routine
 vessel-ring-dispatch-spec 𝓤 H 𝓜 𝓖 𝓡 =
-    lends rounds ran (uint-kind w16 ∷ [])
-    (λ h x r y₁ y₂ y₃ y₄. ranFrom r y₁ y₂ y₃ y₄ ≡ ranOf (dispatchStepOf h (dispatchRing (x .0) h)))
-    (λ h x. ranOf (dispatchStepOf h (dispatchRing (x .0) h)) .ring) (λ h x. ranOf (dispatchStepOf h (dispatchRing (x .0) h)) .rounds)
-    (λ h x r y₁ y₂ y₃ y₄ told. (ap (λ (z : Ran). z .ring) told, ap (λ (z : Ran). z .rounds) told)) 𝓤 H 𝓜 𝓖 𝓡
+    changes (uint-kind w16 ∷ []) ring (uint-kind w16 ∷ []) dispatched rounds (λ a. a) roundsIn (λ d x. dispatchStep (x .0) d .dispatched) (λ d x. dispatchStep (x .0) d .ring) 𝓤 H 𝓜 𝓖 𝓡
     (λ κs a. exported.clauses 𝓤 H (𝓖 .A) (𝓜 .mem) (𝓡 .run) κs a .ensures tt) (λ κs a ws is. factI 𝓤 _ (emp 𝓤) (refl, refl))
-    code.env name run.name run.routine (code.unfolded 𝓤 H 𝓜 𝓡) code.calls-c-structs·dispatch (met 𝓤 H 𝓜 𝓖 𝓡)
+    code.env name passed (called g.name g.routine code.calls-site·dispatch (g-met.met 𝓤 H 𝓜 𝓖 𝓡))
+    (told (called k.name k.routine code.calls-c-structs·rounds-in (k-met.met 𝓤 H 𝓜 𝓖 𝓡))) (code.unfolded 𝓤 H 𝓜 𝓡)

@@ -1,14 +1,17 @@
--- `vessel_ring_enter` meets its contract: it hands the ring on to `site::perform` (Performs.antt). Assumes nothing.
+-- `vessel_ring_enter` meets its contract: it makes the command, hands the ring on to `site::perform` (HandsOn.antt of `site`) and tells the
+-- reply.
 use mathlib.Core.List.{[], _∷_}
-use Rattle.network.specs.declared.RingCall.the-variants.{Enter}
+use Rattle.command.specs.declared.Action.the-variants.{Enter}
+use Rattle.command.specs.Bare.{bareOf}
 use Rattle.network.specs.Network.{nodeNo}
+use Rattle.lent.proofs.Around.{called, told}
 use Rattle.lent.proofs.Params.{u8-kind}
+use Rattle.site.proofs.HandsOn.{performs}
 use Rattle.c_structs.specs.Answers.{numbersIn}
-use Rattle.c_structs.proofs.enter.Symbol as named
-use Rattle.c_structs.proofs.enter.Met as named-met
-use Rattle.c_structs.proofs.refusal_in.Symbol as told
-use Rattle.c_structs.proofs.refusal_in.Met as told-met
-use Rattle.vessel_ring.proofs.Performs.{performs}
+use Rattle.c_structs.proofs.enter.Symbol as h
+use Rattle.c_structs.proofs.enter.Met as h-met
+use Rattle.c_structs.proofs.refusal_in.Symbol as k
+use Rattle.c_structs.proofs.refusal_in.Met as k-met
 use Rattle.vessel_ring.proofs.vessel_ring_enter.Key.{name}
 use Rattle.vessel_ring.proofs.vessel_ring_enter.Statement.{statement}
 use Rattle.vessel_ring.proofs.vessel_ring_enter.Code as code
@@ -16,6 +19,6 @@ use Rattle.vessel_ring.proofs.vessel_ring_enter.Code as code
 pub vessel-ring-enter-spec : {M : Type 1} → statement M
 unfolding code.routine
 vessel-ring-enter-spec 𝓤 H 𝓜 𝓖 𝓡 =
-    performs (u8-kind ∷ []) u8-kind (λ a. Enter (nodeNo (a .0))) (λ r. numbersIn (r .answer) .refusal) 𝓤 H 𝓜 𝓖 𝓡
-    code.env name named.name told.name named.routine told.routine (code.unfolded 𝓤 H 𝓜 𝓡) code.calls-c-structs·enter
-    code.calls-batch·sending·Fields·none code.calls-site·perform code.calls-c-structs·refusal-in (named-met.met 𝓤 H 𝓜 𝓖 𝓡) (told-met.met 𝓤 H 𝓜 𝓖 𝓡)
+    performs (u8-kind ∷ []) u8-kind (λ a. bareOf (Enter (nodeNo (a .0)))) (λ r. numbersIn (r .answer) .refusal) 𝓤 H 𝓜 𝓖 𝓡
+    code.env name (called h.name h.routine code.calls-c-structs·enter (h-met.met 𝓤 H 𝓜 𝓖 𝓡)) code.calls-site·perform
+    (told (called k.name k.routine code.calls-c-structs·refusal-in (k-met.met 𝓤 H 𝓜 𝓖 𝓡))) (code.unfolded 𝓤 H 𝓜 𝓡)
