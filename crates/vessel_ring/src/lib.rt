@@ -13,7 +13,7 @@
 // - its prototype in the header, and its arm in tests/calls.
 //
 // One more command of the tape takes nothing here: `commands` of `by_number` reads the tape's own table. A call on a lent table hands it on:
-// its operand and its answer are turned by two functions of `by_number`, and `Handing.antt` of `lent` has the argument.
+// its operand and its answer are turned by functions of `by_number`, a verdict by its `number`; `Handing.antt` of `lent` has the argument.
 use batch::sending::Fields;
 use by_number::BatchFigures;
 use by_number::Command;
@@ -31,6 +31,7 @@ use history::Row;
 use network::Ring;
 use runner::Session;
 ghost use mathlib.Core.Path.{_≡_};
+ghost use Rattle.refusal.specs.Number.{verdictNumber};
 ghost use Rattle.batch.specs.declared.sending.Scale.the-variants.{Tenths, Hundredths};
 ghost use Rattle.batch.specs.Sending.{recordFrom};
 ghost use Rattle.convert.specs.TurnedRing.{turnRing};
@@ -223,21 +224,21 @@ pub extern "C" fn vessel_ring_to_hundredths(ring: &mut Ring) -> u8
 #[no_mangle]
 pub extern "C" fn vessel_history_note(table: &mut [Row], record: Record) -> u8
     ensures { λ r. ⌜ (now (table .exit) ≡ History.note (recordOf «record») (now (table .entry)) .table)
-        × (r ≡ History.outcomeNumber (History.note (recordOf «record») (now (table .entry)) .outcome)) ⌝ }
+        × (r ≡ verdictNumber (History.note (recordOf «record») (now (table .entry)) .verdict)) ⌝ }
 {
     let record = records::record_of(record);
-    let outcome = history::note(table, record);
-    tables::number_in(outcome)
+    let verdict = history::note(table, record);
+    verdict.number()
 }
 
 #[no_mangle]
 pub extern "C" fn vessel_history_close(table: &mut [Row], batch: u32) -> u8
     ensures { λ r. ⌜ (now (table .exit) ≡ History.close batch (now (table .entry)) .table)
-        × (r ≡ History.outcomeNumber (History.close batch (now (table .entry)) .outcome)) ⌝ }
+        × (r ≡ verdictNumber (History.close batch (now (table .entry)) .verdict)) ⌝ }
 {
     let batch = tables::batch_no(batch);
-    let outcome = history::close(table, batch);
-    tables::number_in(outcome)
+    let verdict = history::close(table, batch);
+    verdict.number()
 }
 
 #[no_mangle]
@@ -253,10 +254,10 @@ pub extern "C" fn vessel_history_figures(table: &[Row], batch: u32) -> BatchFigu
 #[no_mangle]
 pub extern "C" fn vessel_history_to_hundredths(table: &mut [Row]) -> u8
     ensures { λ r. ⌜ (now (table .exit) ≡ turnTable (now (table .entry)) .table)
-        × (r ≡ History.outcomeNumber (turnTable (now (table .entry)) .outcome)) ⌝ }
+        × (r ≡ verdictNumber (turnTable (now (table .entry)) .verdict)) ⌝ }
 {
-    let outcome = convert::tables::turn_table(table);
-    tables::number_in(outcome)
+    let verdict = convert::tables::turn_table(table);
+    verdict.number()
 }
 
 #[no_mangle]
