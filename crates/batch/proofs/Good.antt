@@ -2,11 +2,8 @@
 -- a limit or a clause can change behind its name. Assumes nothing.
 use mathlib.Core.Path.{_≡_, refl, sym, ap, _∙_}
 use mathlib.Core.Bool.{Bool, true, false, not, _&&_, false≢true, and-eq-true-iff}
-use mathlib.Core.List.{[], _∷_}
 use Prim.Native.Nat.{ℕ, _≤_, _<_, _^_}
 use native.Mathlib.Omega.{arith}
-use types.Run.{OneOf, miss}
-use denote.Enum.Declared.{tagOf}
 use lib.Dec.{leb, ltb, lit≤}
 use lib.IntN.{ℤ, pos, negsuc}
 use lib.Signed.{leZ, ltZ}
@@ -14,13 +11,13 @@ use lib.ListN.{length}
 use borrow.Author.Tests.{eq-eqb, ne-eqb, le-leb, lt-leb, lt-ltb, ltb-true, ltb-false}
 use Rattle.refusal.specs.declared.Refusal.{Refusal}
 use Rattle.refusal.specs.declared.Refusal.the-variants.{BatchNumberZero, TemperatureOutOfRange, NameTooLong, BadName, BlankEnd}
-use Rattle.refusal.proofs.Number.{in-range}
+use Rattle.refusal.specs.declared.Verdict.{Verdict}
+use Rattle.refusal.specs.declared.Verdict.the-variants.{Passed, Refused}
+use Rattle.refusal.specs.Number.{verdictNumber}
+use Rattle.refusal.proofs.Verdicts.{hasPassed, has-passed, zero-passed}
 use Rattle.batch.specs.declared.BatchRecord.{BatchRecord}
-use Rattle.batch.specs.declared.Verdict.{Verdict}
-use Rattle.batch.specs.declared.Verdict.the-variants.{Good, Refused}
-use Rattle.batch.proofs.Verdict.{the-type}
 use Rattle.batch.specs.Good.{inRange, nameLimit, batchGood, tempGood, nameLengthGood, nameGood, widthsGood}
-use Rattle.batch.specs.Good.{goodRecord, verdictOf, verdictNumber, blankEnds, sendVerdict, GoodExactly, GoodIsZero, GoodNumber, SentExactly, Means30}
+use Rattle.batch.specs.Good.{goodRecord, verdictOf, blankEnds, sendVerdict, GoodExactly, GoodIsZero, GoodNumber, SentExactly, Means30}
 
 -- by cases on a test, each with the test's outcome in hand
 pub by-test : {A : Type 0} (b : Bool) → (b ≡ true → A) → (b ≡ false → A) → A
@@ -37,11 +34,6 @@ leZ-not-ltZ (pos a) (pos b) = leb-not-ltb a b
 leZ-not-ltZ (pos a) (negsuc b) = refl
 leZ-not-ltZ (negsuc a) (pos b) = refl
 leZ-not-ltZ (negsuc a) (negsuc b) = leb-not-ltb b a
-
--- whether a verdict is the good one
-abbrev pub accepted : Verdict → Bool
-accepted Good = true
-accepted (Refused x) = false
 
 -- the clauses that a good record passes
 pub record Passes (r : BatchRecord) : Type 0 where
@@ -98,7 +90,7 @@ module _ (r : BatchRecord) where
   verdict-name b t l n = rw (b, t, l, n)
 
   pub verdict-good : batchGood r ≡ true → tempGood r ≡ true → nameLengthGood r ≡ true → nameGood r ≡ true
-      → widthsGood r ≡ true → verdictOf r ≡ Good
+      → widthsGood r ≡ true → verdictOf r ≡ Passed
   unfolding verdictOf
   verdict-good b t l n w = rw (b, t, l, n, w)
 
@@ -112,9 +104,9 @@ module _ (r : BatchRecord) where
       let t = and-eq-true-iff (batchGood r) (tempGood r) .0 (l .0) in
       record { number = t .0; degrees = t .1; size = l .1; name = n .1; widths = w .1 }
 
-  pub goodRecord-accepted : goodRecord r ≡ accepted (verdictOf r)
+  pub goodRecord-passed : goodRecord r ≡ hasPassed (verdictOf r)
   unfolding goodRecord verdictOf
-  goodRecord-accepted =
+  goodRecord-passed =
       by-test (batchGood r) (λ b.
       by-test (tempGood r) (λ t.
       by-test (nameLengthGood r) (λ l.
@@ -123,26 +115,12 @@ module _ (r : BatchRecord) where
       (λ n. rw (b, t, l, n)))
       (λ l. rw (b, t, l))) (λ t. rw (b, t))) (λ b. rw b)
 
--- the verdict of a `match` arm that is no refusal
-pub no-refusal : (v : Verdict) → OneOf (0 ∷ []) (tagOf the-type v) → v ≡ Good
-no-refusal Good k = refl
-no-refusal (Refused r) k = absurd (miss (0 ∷ []) 1 tt k)
-
-accepted-good : (v : Verdict) → accepted v ≡ true → v ≡ Good
-accepted-good Good e = refl
-accepted-good (Refused x) e = absurd (false≢true e)
-
 pub good-exactly : GoodExactly
 good-exactly r =
-    (λ e. accepted-good (verdictOf r) (sym (goodRecord-accepted r) ∙ e), λ e. goodRecord-accepted r ∙ ap accepted e)
-
--- no refusal has the number 0
-zero-good : (v : Verdict) → verdictNumber v ≡ 0 → v ≡ Good
-zero-good Good e = refl
-zero-good (Refused x) e = absurd (omega (arith, in-range x))
+    (λ e. has-passed (verdictOf r) (sym (goodRecord-passed r) ∙ e), λ e. goodRecord-passed r ∙ ap hasPassed e)
 
 pub good-is-zero : GoodIsZero
-good-is-zero r = (λ e. ap verdictNumber (good-exactly r .0 e), λ e. good-exactly r .1 (zero-good (verdictOf r) e))
+good-is-zero r = (λ e. ap verdictNumber (good-exactly r .0 e), λ e. good-exactly r .1 (zero-passed (verdictOf r) e))
 
 pub good-number : GoodNumber
 good-number r e z = false≢true (sym (batch-zero r z) ∙ good-clauses r e .number)
@@ -153,19 +131,19 @@ module _ (r : BatchRecord) where
   unfolding sendVerdict
   sent-bad x bad = rw bad
 
-  pub sent-blank : verdictOf r ≡ Good → blankEnds r ≡ true → sendVerdict r ≡ Refused BlankEnd
+  pub sent-blank : verdictOf r ≡ Passed → blankEnds r ≡ true → sendVerdict r ≡ Refused BlankEnd
   unfolding sendVerdict
   sent-blank good ends = rw (good, ends)
 
-  pub sent-taken : verdictOf r ≡ Good → blankEnds r ≡ false → sendVerdict r ≡ Good
+  pub sent-taken : verdictOf r ≡ Passed → blankEnds r ≡ false → sendVerdict r ≡ Passed
   unfolding sendVerdict
   sent-taken good ends = rw (good, ends)
 
   -- by what is asked of every record, and then by the ends of the name
   module _ (P : Verdict → Type 0) (bad : (x : Refusal) → verdictOf r ≡ Refused x → P (Refused x))
-      (ends : goodRecord r ≡ true → blankEnds r ≡ true → P (Refused BlankEnd)) (fine : goodRecord r ≡ true → blankEnds r ≡ false → P Good) where
+      (ends : goodRecord r ≡ true → blankEnds r ≡ true → P (Refused BlankEnd)) (fine : goodRecord r ≡ true → blankEnds r ≡ false → P Passed) where
     by-verdict : (v : Verdict) → verdictOf r ≡ v → P (sendVerdict r)
-    by-verdict Good e =
+    by-verdict Passed e =
         let good = good-exactly r .1 e in
         by-test (blankEnds r) (λ b. rw (sent-blank e b) (ends good b)) (λ b. rw (sent-taken e b) (fine good b))
     by-verdict (Refused x) e = rw (sent-bad x e) (bad x e)
@@ -185,9 +163,9 @@ module _ (r : BatchRecord) where
 
 pub sent-exactly : SentExactly
 sent-exactly r = (
-  by-ends r (λ v. v ≡ Good → (goodRecord r ≡ true) × (blankEnds r ≡ false))
-      (λ x _ e. absurd (false≢true (ap accepted e)))
-      (λ _ _ e. absurd (false≢true (ap accepted e)))
+  by-ends r (λ v. v ≡ Passed → (goodRecord r ≡ true) × (blankEnds r ≡ false))
+      (λ x _ e. absurd (false≢true (ap hasPassed e)))
+      (λ _ _ e. absurd (false≢true (ap hasPassed e)))
       (λ g b _. (g, b)),
   λ h. sent-taken r (good-exactly r .0 (h .0)) (h .1),
 )
@@ -197,6 +175,6 @@ means-30 r = (
   by-ends r (λ v. v ≡ Refused BlankEnd → (goodRecord r ≡ true) × (blankEnds r ≡ true))
       (λ x bad e. absurd (omega (arith, verdict-most r, ap verdictNumber (bad ∙ e))))
       (λ g b _. (g, b))
-      (λ _ _ e. absurd (false≢true (sym (ap accepted e)))),
+      (λ _ _ e. absurd (false≢true (sym (ap hasPassed e)))),
   λ h. sent-blank r (good-exactly r .0 (h .0)) (h .1),
 )

@@ -11,16 +11,17 @@ use lib.Signed.{mag}
 use borrow.Author.Tests.{le-leb, lt-leb, leb-true, leb-false}
 use Rattle.refusal.specs.declared.Refusal.{Refusal}
 use Rattle.refusal.specs.declared.Refusal.the-variants.{BatchNumberZero, TemperatureOutOfRange}
+use Rattle.refusal.specs.declared.Verdict.{Verdict}
+use Rattle.refusal.specs.declared.Verdict.the-variants.{Passed, Refused as Bad}
+use Rattle.refusal.specs.Number.{verdictNumber}
 use Rattle.batch.specs.declared.BatchRecord.{BatchRecord}
-use Rattle.batch.specs.declared.Verdict.{Verdict}
-use Rattle.batch.specs.declared.Verdict.the-variants.{Good, Refused as Bad}
 use Rattle.batch.specs.declared.sending.Fields.{Fields}
 use Rattle.batch.specs.declared.sending.Made.{Made}
 use Rattle.batch.specs.declared.sending.Made.the-variants.{Temperature, Refused}
 use Rattle.batch.specs.declared.sending.Scale.{Scale}
 use Rattle.batch.specs.declared.sending.Sent.{Sent}
 use Rattle.batch.specs.declared.sending.Scale.the-variants.{Tenths, Hundredths}
-use Rattle.batch.specs.Good.{inRange, batchGood, tempGood, nameLengthGood, nameGood, widthsGood, blankEnds, verdictOf, verdictNumber, sendVerdict}
+use Rattle.batch.specs.Good.{inRange, batchGood, tempGood, nameLengthGood, nameGood, widthsGood, blankEnds, verdictOf, sendVerdict}
 use Rattle.batch.specs.Sending.{inTenths, tenfold, inScale, asHundredths, made, OneRange, Means12, MadeOfTenths, MadeOfHundredths}
 use Rattle.batch.specs.Sending.{recordWith, recordFrom, sentAs, sentFrom}
 use Rattle.batch.proofs.Good.{by-test, batch-zero, batch-not-zero, temp-tested, verdict-batch, verdict-temp, sent-bad}
@@ -115,7 +116,7 @@ module _ (s : Scale) (f : Fields) where
   unfolding sentFrom
   sent-verdict = refl
 
-  pub sent-record : sendVerdict x ≡ Good → sentFrom s f .«record» ≡ x
+  pub sent-record : sendVerdict x ≡ Passed → sentFrom s f .«record» ≡ x
   sent-record e = ap (λ (r : Sent). r .«record») (by-verdict e)
 
   zero-is-11 : f .batch .0 ≡ 0 → sendVerdict x ≡ Bad BatchNumberZero

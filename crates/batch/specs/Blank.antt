@@ -4,9 +4,9 @@ use mathlib.Core.Path.{_≡_}
 use lib.IntN.{pos}
 use lib.ListN.{replicate}
 use Rattle.refusal.specs.declared.Refusal.the-variants.{BatchNumberZero}
+use Rattle.refusal.specs.declared.Verdict.the-variants.{Refused}
 use Rattle.batch.specs.Good.{nameLimit, verdictOf}
 use Rattle.batch.specs.declared.BatchRecord.{BatchRecord}
-use Rattle.batch.specs.declared.Verdict.the-variants.{Refused}
 
 unfoldable pub noRecord : BatchRecord
 noRecord =

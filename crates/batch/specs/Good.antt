@@ -10,10 +10,10 @@ use lib.IntN.{ℤ, pos, negℤ}
 use lib.Signed.{leZ}
 use lib.ListN.{length, getD, take, drop}
 use Rattle.refusal.specs.declared.Refusal.the-variants.{BatchNumberZero, TemperatureOutOfRange, NameTooLong, BadName, BlankEnd}
-use Rattle.refusal.specs.Number.{numberOf}
+use Rattle.refusal.specs.declared.Verdict.{Verdict}
+use Rattle.refusal.specs.declared.Verdict.the-variants.{Passed, Refused}
+use Rattle.refusal.specs.Number.{verdictNumber}
 use Rattle.batch.specs.declared.BatchRecord.{BatchRecord}
-use Rattle.batch.specs.declared.Verdict.{Verdict}
-use Rattle.batch.specs.declared.Verdict.the-variants.{Good, Refused}
 
 -- the limits: temperatures in hundredths of a degree Celsius, a name's length, and the bytes that a name is made of
 abbrev pub coldest : ℤ
@@ -108,12 +108,7 @@ verdictOf r =
     (unless (tempGood r) (Refused TemperatureOutOfRange)
     (unless (nameLengthGood r) (Refused NameTooLong)
     (unless (nameGood r && widthsGood r) (Refused BadName)
-    Good)))
-
--- document 01's number for a verdict: that of the refusal, or 0
-abbrev pub verdictNumber : Verdict → ℕ
-verdictNumber Good = 0
-verdictNumber (Refused r) = numberOf r
+    Passed)))
 
 -- A name of n bytes begins or ends with a blank: its first byte is one, or its last, the one at n - 1. An empty name has neither.
 unfoldable pub blankAtEnd : ℕ → List ℕ → Bool
@@ -124,17 +119,17 @@ blankEnds r = blankAtEnd (r .«name_length») (r .name)
 
 -- one verdict, then another: the first refusal of the two
 abbrev pub andThen : Verdict → Verdict → Verdict
-andThen Good later = later
+andThen Passed later = later
 andThen (Refused r) later = Refused r
 
 -- What send asks of a record: that it is good, and then that its name has no blank at an end: 11, 12, 13, 14, 30. A good record with a
 -- blank there stays good where it is offered or carried, so in a sound ring, and in the history.
 unfoldable pub sendVerdict : BatchRecord → Verdict
-sendVerdict r = andThen (verdictOf r) (unless (not (blankEnds r)) (Refused BlankEnd) Good)
+sendVerdict r = andThen (verdictOf r) (unless (not (blankEnds r)) (Refused BlankEnd) Passed)
 
 -- a record is good exactly when no refusal applies
 abbrev pub GoodExactly : Type 0
-GoodExactly = (r : BatchRecord) → (goodRecord r ≡ true) ↔ (verdictOf r ≡ Good)
+GoodExactly = (r : BatchRecord) → (goodRecord r ≡ true) ↔ (verdictOf r ≡ Passed)
 
 -- and exactly when its number is 0
 abbrev pub GoodIsZero : Type 0
@@ -142,7 +137,7 @@ GoodIsZero = (r : BatchRecord) → (goodRecord r ≡ true) ↔ (verdictNumber (v
 
 -- send takes exactly the good records without a blank at an end of their name, and refuses exactly the other good ones with 30
 abbrev pub SentExactly : Type 0
-SentExactly = (r : BatchRecord) → (sendVerdict r ≡ Good) ↔ ((goodRecord r ≡ true) × (blankEnds r ≡ false))
+SentExactly = (r : BatchRecord) → (sendVerdict r ≡ Passed) ↔ ((goodRecord r ≡ true) × (blankEnds r ≡ false))
 
 abbrev pub Means30 : Type 0
 Means30 = (r : BatchRecord) → (sendVerdict r ≡ Refused BlankEnd) ↔ ((goodRecord r ≡ true) × (blankEnds r ≡ true))

@@ -6,9 +6,9 @@ use mathlib.Core.Logic.{_↔_, _≢_}
 use mathlib.Core.List.{[], _∷_, map}
 use lib.IntN.{ℤ, pos, negℤ, _*ℤ_}
 use Rattle.refusal.specs.declared.Refusal.the-variants.{TemperatureOutOfRange}
+use Rattle.refusal.specs.declared.Verdict.{Verdict}
+use Rattle.refusal.specs.declared.Verdict.the-variants.{Passed, Refused as Bad}
 use Rattle.batch.specs.declared.BatchRecord.{BatchRecord}
-use Rattle.batch.specs.declared.Verdict.{Verdict}
-use Rattle.batch.specs.declared.Verdict.the-variants.{Good, Refused as Bad}
 use Rattle.batch.specs.declared.sending.Fields.{Fields}
 use Rattle.batch.specs.declared.sending.Made.{Made}
 use Rattle.batch.specs.declared.sending.Made.the-variants.{Temperature, Refused}
@@ -83,7 +83,7 @@ noFields = fieldsOf noRecord
 
 -- what send makes of a record, and of a command's fields: its verdict, and the record, blank where it is refused
 abbrev pub onlyGood : Verdict → BatchRecord → BatchRecord
-onlyGood Good x = x
+onlyGood Passed x = x
 onlyGood (Bad r) x = noRecord
 
 abbrev pub sentAs : BatchRecord → Verdict → Sent

@@ -6,11 +6,13 @@
 pub mod sending;
 
 use refusal::Refusal;
+use refusal::Verdict;
 ghost use mathlib.Core.Path.{_≡_};
 ghost use mathlib.Core.Bool.{cond};
 ghost use Prim.Native.Nat.{_≤_};
 ghost use lib.ListN as ListN;
-ghost use Rattle.batch.specs.Good.{every, between, inRange, isZero, isCharacter, nameLimit, nameCellsGood, recordOf, verdictOf, verdictNumber, goodRecord, blankAtEnd, sendVerdict};
+ghost use Rattle.refusal.specs.Number.{verdictNumber};
+ghost use Rattle.batch.specs.Good.{every, between, inRange, isZero, isCharacter, nameLimit, nameCellsGood, recordOf, verdictOf, goodRecord, blankAtEnd, sendVerdict};
 ghost use Rattle.batch.specs.Blank.{noRecord};
 ghost use Rattle.batch.specs.Same.{sameBatch};
 
@@ -28,12 +30,6 @@ pub struct BatchRecord {
     // Hundredths of a degree Celsius.
     pub temperature: i16,
     pub name: [u8; 32],
-}
-
-// A good record, or the first refusal that applies to it.
-pub enum Verdict {
-    Good,
-    Refused(Refusal),
 }
 
 impl BatchRecord {
@@ -213,7 +209,7 @@ fn judge_fields(number: u32, vessel: u8, temperature: i16, name_length: u8, name
         return Verdict::Refused(Refusal::NameTooLong);
     }
     if name_cells_good(name_length, name) {
-        Verdict::Good
+        Verdict::Passed
     } else {
         Verdict::Refused(Refusal::BadName)
     }
@@ -262,7 +258,7 @@ pub fn judge_sent(record: BatchRecord) -> Verdict
     if blank_at_end(record.name_length, &name) {
         return Verdict::Refused(Refusal::BlankEnd);
     }
-    Verdict::Good
+    Verdict::Passed
 }
 
 // Whether no refusal applies to a record of these fields: for a record that is still in its bytes.
@@ -272,7 +268,7 @@ pub fn fields_good(number: u32, vessel: u8, temperature: i16, name_length: u8, n
 {
     let verdict = judge_fields(number, vessel, temperature, name_length, name);
     match verdict {
-        Verdict::Good => true,
+        Verdict::Passed => true,
         Verdict::Refused(_) => false,
     }
 }

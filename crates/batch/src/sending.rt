@@ -2,15 +2,15 @@
 // hundredths, so it is made here, in one function, and nowhere else.
 use crate::BatchNo;
 use crate::BatchRecord;
-use crate::Verdict;
 use crate::between;
 use crate::in_range;
 use crate::judge_sent;
 use refusal::Refusal;
+use refusal::Verdict;
 ghost use mathlib.Core.Path.{_≡_};
+ghost use Rattle.refusal.specs.declared.Verdict.the-variants.{Refused};
 ghost use Rattle.batch.specs.Blank.{noRecord};
 ghost use Rattle.batch.specs.Good.{sendVerdict};
-ghost use Rattle.batch.specs.declared.Verdict.the-variants.{Refused};
 ghost use Rattle.batch.specs.declared.sending.Scale.the-variants.{Tenths};
 ghost use Rattle.batch.specs.Sending.{inTenths, made, recordWith, fieldsOf, noFields, sentAs, sentFrom};
 
@@ -136,7 +136,7 @@ fn judged(record: BatchRecord) -> Sent
         return unsent(refusal);
     }
     Sent {
-        verdict: Verdict::Good,
+        verdict: Verdict::Passed,
         record,
     }
 }

@@ -2,24 +2,13 @@
 use crate::BatchFigures;
 use batch::BatchNo;
 use history::Figures;
-use history::Outcome;
 ghost use mathlib.Core.Path.{_≡_};
-ghost use Rattle.history.specs.History.{outcomeNumber};
 ghost use Rattle.c_structs.specs.Tables.{batchNo, noFigures, figuresIn};
 
 pub fn batch_no(number: u32) -> BatchNo
     ensures { λ r. ⌜ r ≡ batchNo number ⌝ }
 {
     BatchNo(number)
-}
-
-pub fn number_in(outcome: Outcome) -> u8
-    ensures { λ r. ⌜ r ≡ outcomeNumber outcome ⌝ }
-{
-    match outcome {
-        Outcome::Done => 0,
-        Outcome::Refused(refusal) => refusal.number(),
-    }
 }
 
 fn no_figures(refusal: u8) -> BatchFigures

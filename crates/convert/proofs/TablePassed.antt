@@ -4,12 +4,12 @@ use mathlib.Core.Bool.{Bool, true, _&&_, and-assoc, and-eq-true-iff}
 use mathlib.Core.List.{List, [], _∷_, map}
 use Prim.Native.Nat.{ℕ, suc}
 use Rattle.refusal.specs.declared.Refusal.the-variants.{UnsoundRing}
+use Rattle.refusal.specs.declared.Verdict.{Verdict}
+use Rattle.refusal.specs.declared.Verdict.the-variants.{Passed, Refused}
 use Rattle.batch.specs.Good.{every, unless}
 use Rattle.batch.specs.Sending.{inTenths, tenfold}
 use Rattle.batch.proofs.Good.{by-test}
 use Rattle.lent.specs.Slices.{foldRows}
-use Rattle.history.specs.declared.Outcome.{Outcome}
-use Rattle.history.specs.declared.Outcome.the-variants.{Done, Refused}
 use Rattle.history.specs.declared.Row.{Row}
 use Rattle.history.specs.Table.{soundTable}
 use Rattle.history.specs.Search.{seenAt, soundSearch}
@@ -50,20 +50,20 @@ turned-passed [] i p = refl
 turned-passed (r ∷ t) i p = turned-passed t (suc i) (passSeen p r i)
 
 module _ (t : List Row) where
-  abbrev answered : Outcome
+  abbrev answered : Verdict
   answered = decided (passed 0 passBegun t)
 
   sound-turned : soundSearch (passed 0 passBegun t .turned) ≡ soundTable (map turnedRow t)
   sound-turned = ap soundSearch (turned-passed t 0 passBegun) ∙ sound-pass (record { 0 = 0 }) (map turnedRow t)
 
-  answer-is : answered ≡ unless (soundInTenths t) (Refused UnsoundRing) Done
+  answer-is : answered ≡ unless (soundInTenths t) (Refused UnsoundRing) Passed
   unfolding soundInTenths
   answer-is =
       by-test (every rowInTenths t)
       (λ e. rw (tenths-passed t 0 passBegun, e, sound-turned, table-turned t e))
       (λ e. rw (tenths-passed t 0 passBegun, e))
 
-  pub all-turned : (map (λ r. rowAfter r answered) t ≡ turnTable t .table) × (answered ≡ turnTable t .outcome)
+  pub all-turned : (map (λ r. rowAfter r answered) t ≡ turnTable t .table) × (answered ≡ turnTable t .verdict)
   unfolding turnTable soundInTenths
   all-turned =
       by-test (soundInTenths t)

@@ -10,12 +10,12 @@ use lib.IntN.{ℤ, pos, negsuc, subℕ, _+ℤ_}
 use lib.Signed.{ltZ}
 use lib.ListN.{getD, take, length-map, List·getD-map}
 use borrow.Author.Tests.{lt-ltb, le-ltb, ltb-true, ltb-false}
+use Rattle.refusal.specs.declared.Verdict.the-variants.{Passed}
+use Rattle.refusal.proofs.Verdicts.{hasPassed}
 use Rattle.batch.specs.Good.{every}
 use Rattle.batch.specs.Sending.{tenfold}
 use Rattle.batch.proofs.Good.{by-test}
 use Rattle.batch.proofs.Temperatures.{below-zero}
-use Rattle.history.specs.declared.Outcome.{Outcome}
-use Rattle.history.specs.declared.Outcome.the-variants.{Done, Refused}
 use Rattle.history.specs.declared.Row.{Row}
 use Rattle.history.specs.Table.{emptyRow, soundTable, batchesIn, placeOf, hasRow, readingsIn}
 use Rattle.history.specs.History.{lowest, highest, sum, figuresOf, figures}
@@ -121,13 +121,9 @@ module _ (t : List Row) where
   unfolding turnTable
   stays e = rw e
 
-  abbrev isDone : Outcome → Bool
-  isDone Done = true
-  isDone (Refused _) = false
-
-  done-sound : turnTable t .outcome ≡ Done → soundInTenths t ≡ true
+  done-sound : turnTable t .verdict ≡ Passed → soundInTenths t ≡ true
   unfolding turnTable
-  done-sound d = by-test (soundInTenths t) (λ e. e) (λ e. absurd (false≢true (rw e at (ap isDone d))))
+  done-sound d = by-test (soundInTenths t) (λ e. e) (λ e. absurd (false≢true (rw e at (ap hasPassed d))))
 
 pub turned-sound : TurnedSound
 unfolding soundInTenths

@@ -5,10 +5,10 @@ use mathlib.Core.List.{map}
 use Prim.Native.Nat.{ℕ}
 use lib.IntN.{ℤ}
 use Rattle.refusal.specs.declared.Refusal.the-variants.{UnsoundRing}
+use Rattle.refusal.specs.declared.Verdict.{Verdict}
+use Rattle.refusal.specs.declared.Verdict.the-variants.{Passed, Refused}
 use Rattle.batch.specs.Good.{unless}
 use Rattle.batch.specs.Sending.{inTenths, tenfold}
-use Rattle.history.specs.declared.Outcome.{Outcome}
-use Rattle.history.specs.declared.Outcome.the-variants.{Done, Refused}
 use Rattle.history.specs.declared.Row.{Row}
 use Rattle.history.specs.Search.{beginAt, seenAt, soundSearch}
 use Rattle.convert.specs.declared.tables.Pass.{Pass}
@@ -27,9 +27,9 @@ passBegun = record { tenths = true; turned = beginAt (record { 0 = 0 }) }
 abbrev pub passSeen : Pass → Row → ℕ → Pass
 passSeen p r i = record { tenths = p .tenths && rowInTenths r; turned = seenAt (p .turned) (turnedRow r) i }
 
-abbrev pub decided : Pass → Outcome
-decided p = unless (p .tenths && soundSearch (p .turned)) (Refused UnsoundRing) Done
+abbrev pub decided : Pass → Verdict
+decided p = unless (p .tenths && soundSearch (p .turned)) (Refused UnsoundRing) Passed
 
-abbrev pub rowAfter : Row → Outcome → Row
-rowAfter r Done = turnedRow r
+abbrev pub rowAfter : Row → Verdict → Row
+rowAfter r Passed = turnedRow r
 rowAfter r (Refused _) = r

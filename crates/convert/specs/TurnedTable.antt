@@ -7,11 +7,11 @@ use Prim.Native.Nat.{ℕ}
 use lib.IntN.{ℤ}
 use lib.ListN.{length, getD}
 use Rattle.refusal.specs.declared.Refusal.the-variants.{UnsoundRing}
+use Rattle.refusal.specs.declared.Verdict.the-variants.{Passed}
 use Rattle.batch.specs.Good.{every, unless}
 use Rattle.batch.specs.Sending.{inTenths, tenfold}
 use Rattle.history.specs.declared.Figures.{Figures}
 use Rattle.history.specs.declared.Figures.the-variants.{None, Of, Refused as NotAnswered}
-use Rattle.history.specs.declared.Outcome.the-variants.{Done}
 use Rattle.history.specs.declared.Row.{Row}
 use Rattle.history.specs.Table.{emptyRow, soundTable, readingsIn}
 use Rattle.history.specs.History.{Result, refused, done, figuresOf, figures}
@@ -41,7 +41,7 @@ turnTable t = unless (soundInTenths t) (refused UnsoundRing t) (done (tenfoldTab
 -- ---- what is promised of every table
 -- a table that was turned is sound
 abbrev pub TurnedSound : Type 0
-TurnedSound = (t : List Row) → turnTable t .outcome ≡ Done → soundTable (turnTable t .table) ≡ true
+TurnedSound = (t : List Row) → turnTable t .verdict ≡ Passed → soundTable (turnTable t .table) ≡ true
 
 -- each figure of every batch that is told then is ten times as many as that of the readings before, and a batch that had none has none
 abbrev pub tenfoldFigures : Figures → Figures
@@ -51,7 +51,7 @@ tenfoldFigures (NotAnswered r) = NotAnswered r
 
 abbrev pub FiguresTenfold : Type 0
 FiguresTenfold =
-    (t : List Row) (b : ℕ) → turnTable t .outcome ≡ Done →
+    (t : List Row) (b : ℕ) → turnTable t .verdict ≡ Passed →
     figures b (turnTable t .table) ≡ tenfoldFigures (figuresOf (readingsIn b t))
 
 -- all else is the same: how many rows there are, and the batch and the count of each

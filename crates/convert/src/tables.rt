@@ -7,11 +7,11 @@ use batch::sending::Made;
 use batch::sending::Scale;
 use batch::sending::hundredths;
 use batch::sending::in_tenths;
-use history::Outcome;
 use history::Row;
 use history::Search;
 use history::sound;
 use refusal::Refusal;
+use refusal::Verdict;
 ghost use mathlib.Core.Path.{_≡_};
 ghost use mathlib.Core.Bool.{_&&_};
 ghost use mathlib.Core.List.{map};
@@ -112,31 +112,31 @@ fn seen(pass: Pass, row: Row, i: usize) -> Pass
 
 // ---- the whole table
 
-// What the pass decides: the answer.
-fn decided(pass: Pass) -> Outcome
+// What the pass decides.
+fn decided(pass: Pass) -> Verdict
     ensures { λ r. ⌜ r ≡ decided pass ⌝ }
 {
     if !pass.tenths {
-        return Outcome::Refused(Refusal::UnsoundRing);
+        return Verdict::Refused(Refusal::UnsoundRing);
     }
     let turned = pass.turned;
     if !sound(turned) {
-        return Outcome::Refused(Refusal::UnsoundRing);
+        return Verdict::Refused(Refusal::UnsoundRing);
     }
-    Outcome::Done
+    Verdict::Passed
 }
 
-fn row_after(row: Row, outcome: Outcome) -> Row
-    ensures { λ r. ⌜ r ≡ rowAfter row outcome ⌝ }
+fn row_after(row: Row, verdict: Verdict) -> Row
+    ensures { λ r. ⌜ r ≡ rowAfter row verdict ⌝ }
 {
-    match outcome {
-        Outcome::Done => turned_row(row),
-        Outcome::Refused(_) => row,
+    match verdict {
+        Verdict::Passed => turned_row(row),
+        Verdict::Refused(_) => row,
     }
 }
 
-pub fn turn_table(table: &mut [Row]) -> Outcome
-    ensures { λ r. ⌜ (now (table .exit) ≡ turnTable (now (table .entry)) .table) × (r ≡ turnTable (now (table .entry)) .outcome) ⌝ }
+pub fn turn_table(table: &mut [Row]) -> Verdict
+    ensures { λ r. ⌜ (now (table .exit) ≡ turnTable (now (table .entry)) .table) × (r ≡ turnTable (now (table .entry)) .verdict) ⌝ }
 {
     let mut pass = begin();
     let mut i = 0;
@@ -144,11 +144,11 @@ pub fn turn_table(table: &mut [Row]) -> Outcome
         pass = seen(pass, table[i], i);
         i += 1;
     }
-    let outcome = decided(pass);
+    let verdict = decided(pass);
     let mut j = 0;
     while j < table.len() {
-        table[j] = row_after(table[j], outcome);
+        table[j] = row_after(table[j], verdict);
         j += 1;
     }
-    outcome
+    verdict
 }

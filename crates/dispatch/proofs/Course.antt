@@ -11,6 +11,8 @@ use lib.Dec.{ltb}
 use borrow.Author.Tests.{lt-ltb}
 use Rattle.refusal.specs.declared.Refusal.{Refusal}
 use Rattle.refusal.specs.declared.Refusal.the-variants.{UnsoundRing, NotStarted, NoSuchNode}
+use Rattle.refusal.specs.declared.Verdict.{Verdict}
+use Rattle.refusal.specs.declared.Verdict.the-variants.{Passed, Refused}
 use Rattle.network.specs.declared.Ring.{Ring}
 use Rattle.network.specs.declared.Answer.the-variants.{Done}
 use Rattle.network.specs.declared.Answer.the-variants as Answer
@@ -24,8 +26,6 @@ use Rattle.network.proofs.Ground.Splits.{by-test}
 use Rattle.network.proofs.Lists.Clauses.{sound-started}
 use Rattle.network.proofs.Memory.Held.{sound-ring}
 use Rattle.network.proofs.Promises.Dispatch.{going-round}
-use Rattle.updates.specs.declared.opening.Opening.{Opening}
-use Rattle.updates.specs.declared.opening.Opening.the-variants.{Open, Refused}
 use Rattle.updates.specs.declared.opening.Subject.the-variants.{Node}
 use Rattle.updates.specs.Openings.{afterStart, openingOf}
 use Rattle.updates.proofs.Openings.{running, begun-is}
@@ -140,7 +140,7 @@ ran-so given {ring} channels records h done ends =
 
 -- an opening that is refused is the refusal of the dispatcher
 
-pub turned-away : (given : ℕ) (ring : Ring) {r : Refusal} {o : Opening} → o ≡ openingOf ring (Node (nodeNo 0)) → o ≡ Refused r →
+pub turned-away : (given : ℕ) (ring : Ring) {r : Refusal} {o : Verdict} → o ≡ openingOf ring (Node (nodeNo 0)) → o ≡ Refused r →
     dispatchRing given ring ≡ notRun r
 unfolding dispatchRing
 turned-away given ring {r} same told =
@@ -151,7 +151,7 @@ turned-away given ring {r} same told =
     by-test (view ring .started)
     (λ on.
     let some : ltb 0 (ring .head .«node_count») ≡ true = lt-ltb 0 _ (some-node ring ok on) in
-    let never : Open ≡ Refused r = rw (begun, on, some) at judged in
+    let never : Passed ≡ Refused r = rw (begun, on, some) at judged in
     let z : _≡_ {A = ℕ} 0 1 = cc in
     absurd (omega arith))
     (λ off.

@@ -15,9 +15,9 @@ use network::Records;
 use network::Reply;
 use network::Ring;
 use numbers::NodeNo;
+use refusal::Verdict;
 use traffic::enter_at;
 use traffic::move_at;
-use updates::opening::Opening;
 use updates::opening::Subject;
 use updates::opening::open;
 ghost use mathlib.Core.Path.{_≡_};
@@ -206,7 +206,7 @@ fn run(
 {
     let subject = Subject::Node(NodeNo(0));
     let opening = open(head, slots, lines, offers, carried, subject);
-    if let Opening::Refused(refusal) = opening {
+    if let Verdict::Refused(refusal) = opening {
         return HeadRun {
             head,
             answer: Answer::Refused(refusal),

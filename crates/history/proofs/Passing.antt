@@ -14,10 +14,10 @@ use lib.Seq.{sets, sets-eq, set-out, drop-length}
 use borrow.Author.Tests.{eq-eqb, ne-eqb, lt-ltb, le-ltb, le-leb, ltb-true, ltb-false, eqb-true, eqb-false}
 use Rattle.refusal.specs.declared.Refusal.{Refusal}
 use Rattle.refusal.specs.declared.Refusal.the-variants.{UnsoundRing, NoEmptyRow}
+use Rattle.refusal.specs.declared.Verdict.{Verdict}
+use Rattle.refusal.specs.declared.Verdict.the-variants.{Passed, Refused}
 use Rattle.batch.specs.declared.BatchNo.{BatchNo}
 use Rattle.batch.specs.declared.BatchRecord.{BatchRecord}
-use Rattle.batch.specs.declared.Verdict.{Verdict}
-use Rattle.batch.specs.declared.Verdict.the-variants.{Good, Refused as Bad}
 use Rattle.batch.specs.Good.{every, isZero, unless, verdictOf}
 use Rattle.batch.proofs.Good.{by-test, good-exactly, good-number}
 use Rattle.lent.specs.Slices.{foldRows}
@@ -162,7 +162,7 @@ module _ (b : BatchNo) (t : List Row) where
 -- ---- the three calls
 -- what is decided, done to the table, is the table after a call and its answer
 abbrev Does : Decision → List Row → Result → Type 0
-Does d t n = (set t (d .at) (d .row) ≡ n .table) × (d .answer ≡ n .outcome)
+Does d t n = (set t (d .at) (d .row) ≡ n .table) × (d .answer ≡ n .verdict)
 
 -- a refusal stores nothing
 refuses : (t : List Row) (r : Refusal) → length t < 2 ^ 64 → Does (unchanged r) t (refused r t)
@@ -206,8 +206,8 @@ module _ (t : List Row) (room : length t < 2 ^ 64) where
 
     by-verdict : soundTable t ≡ true → (v : Verdict) → verdictOf x ≡ v →
         Does (judged v unchanged (noteGood s b (x .temperature))) t (judged v (λ r. refused r t) next)
-    by-verdict sound Good e = good-noted sound (good-number x (good-exactly x .1 e))
-    by-verdict sound (Bad r) e = refuses t r room
+    by-verdict sound Passed e = good-noted sound (good-number x (good-exactly x .1 e))
+    by-verdict sound (Refused r) e = refuses t r room
 
     pub note-passed : Does (toNote s x) t (note x t)
     note-passed =

@@ -13,9 +13,9 @@ use lib.Seq.{getD-set-same, getD-set-other, set-getD, take-append-seam, drop-app
 use borrow.Author.Tests.{eq-eqb, ne-eqb, le-leb, lt-ltb, leb-true, leb-false, ltb-true, ltb-false, eqb-true, eqb-false}
 use Rattle.refusal.specs.declared.Refusal.{Refusal}
 use Rattle.refusal.specs.declared.Refusal.the-variants.{UnsoundRing, NoEmptyRow}
+use Rattle.refusal.specs.declared.Verdict.{Verdict}
+use Rattle.refusal.specs.declared.Verdict.the-variants.{Passed, Refused}
 use Rattle.batch.specs.declared.BatchRecord.{BatchRecord}
-use Rattle.batch.specs.declared.Verdict.{Verdict}
-use Rattle.batch.specs.declared.Verdict.the-variants.{Good, Refused as Bad}
 use Rattle.batch.specs.Good.{every, isZero, inRange, unless, verdictOf}
 use Rattle.batch.proofs.Good.{by-test, good-exactly, good-number, good-clauses, temp-tested}
 use Rattle.history.specs.declared.Row.{Row}
@@ -189,11 +189,11 @@ module _ (x : BatchRecord) (t : List Row) where
   noted = set t (home b t) (rowWith b xs)
 
   module _ (P : Result → Type 0) (bad : (r : Refusal) → P (refused r t))
-      (good : soundTable t ≡ true → verdictOf x ≡ Good → (hasRow b t || hasEmpty t) ≡ true → P (done noted)) where
+      (good : soundTable t ≡ true → verdictOf x ≡ Passed → (hasRow b t || hasEmpty t) ≡ true → P (done noted)) where
     by-verdict : soundTable t ≡ true → (v : Verdict) → verdictOf x ≡ v →
         P (judged v (λ r. refused r t) (unless (hasRow b t || hasEmpty t) (refused NoEmptyRow t) (done noted)))
-    by-verdict sound (Bad r) e = bad r
-    by-verdict sound Good e = by-test (hasRow b t || hasEmpty t) (λ room. rw room (good sound e room)) (λ none. rw none (bad NoEmptyRow))
+    by-verdict sound (Refused r) e = bad r
+    by-verdict sound Passed e = by-test (hasRow b t || hasEmpty t) (λ room. rw room (good sound e room)) (λ none. rw none (bad NoEmptyRow))
 
     note-by : P (note x t)
     unfolding note
@@ -209,7 +209,7 @@ module _ (b : ℕ) (t : List Row) (P : Result → Type 0) where
       (λ e. rw e bad)
 
 -- ---- a record that was noted
-module _ (x : BatchRecord) (t : List Row) (sound : soundTable t ≡ true) (good : verdictOf x ≡ Good) (room : (hasRow (b x t) t || hasEmpty t) ≡ true) where
+module _ (x : BatchRecord) (t : List Row) (sound : soundTable t ≡ true) (good : verdictOf x ≡ Passed) (room : (hasRow (b x t) t || hasEmpty t) ≡ true) where
   abbrev c : ℕ
   c = b x t
 
@@ -317,7 +317,7 @@ stays (closing c) t sound = close-by c t (λ n. soundTable (n .table) ≡ true) 
 
 -- the readings of a batch follow what is accepted for it
 abbrev Follows : ℕ → Call → List ℤ → Result → Type 0
-Follows b a ys n = readingsIn b (n .table) ≡ lastOf readingLimit (accepts b a (n .outcome) ys)
+Follows b a ys n = readingsIn b (n .table) ≡ lastOf readingLimit (accepts b a (n .verdict) ys)
 
 follows : (k : ℕ) (a : Call) (t : List Row) (ys : List ℤ) → readingsIn k t ≡ lastOf readingLimit ys → Follows k a ys (made a t)
 follows k (noting x) t ys e =
@@ -351,7 +351,7 @@ readings-after :
     (calls : List Call) (k : ℕ) (t : List Row) (ys : List ℤ) → readingsIn k t ≡ lastOf readingLimit ys →
     readingsIn k (tableAfter calls t) ≡ lastOf readingLimit (accepted k calls t ys)
 readings-after [] k t ys e = e
-readings-after (a ∷ calls) k t ys e = readings-after calls k (made a t .table) (accepts k a (made a t .outcome) ys) (follows k a t ys e)
+readings-after (a ∷ calls) k t ys e = readings-after calls k (made a t .table) (accepts k a (made a t .verdict) ys) (follows k a t ys e)
 
 empty-sound : soundTable emptyTable ≡ true
 unfolding soundTable soundRow

@@ -8,12 +8,13 @@ use native.Mathlib.Omega.{arith}
 use lib.IntN.{pos}
 use lib.ListN.{replicate, replicate-append-replicate}
 use Rattle.refusal.specs.declared.Refusal.the-variants.{UnsoundRing}
+use Rattle.refusal.specs.Number.{verdictNumber}
 use Rattle.batch.specs.Good.{verdictOf, batchGood, tempGood, nameLengthGood, nameGood, widthsGood, nameCellsGood}
 use Rattle.history.specs.declared.Row.{Row}
 use Rattle.history.specs.Table.{emptyRow, emptyTable, soundTable, soundRow}
-use Rattle.history.specs.History.{outcomeNumber, Result, refused, note, close, figures, done}
+use Rattle.history.specs.History.{Result, refused, note, close, figures, done}
 use Rattle.history.specs.Runs.{Call, noting, closing, made, tableAfter}
-use Rattle.history.specs.Examples.{reading, after, outcomes, row, tells, hot, OneReading, OldestGoes, FiguresFollow, ZerosCount, ThousandsNoted, RangeEdges, Closed, NoRow, FullTable, RecordFirst, Says25, UnsoundTables}
+use Rattle.history.specs.Examples.{reading, after, verdicts, row, tells, hot, OneReading, OldestGoes, FiguresFollow, ZerosCount, ThousandsNoted, RangeEdges, Closed, NoRow, FullTable, RecordFirst, Says25, UnsoundTables}
 
 pub one-reading : OneReading
 unfolding soundTable soundRow note close figures verdictOf batchGood tempGood nameLengthGood nameGood widthsGood nameCellsGood
@@ -108,10 +109,10 @@ table-then : (before calls : List Call) (t : List Row) → tableAfter (before ++
 table-then [] calls t = refl
 table-then (a ∷ before) calls t = table-then before calls (made a t .table)
 
-outcomes-then :
-    (before calls : List Call) (t : List Row) → outcomes (before ++ calls) t ≡ outcomes before t ++ outcomes calls (tableAfter before t)
-outcomes-then [] calls t = refl
-outcomes-then (a ∷ before) calls t = ap (λ ns. outcomeNumber (made a t .outcome) ∷ ns) (outcomes-then before calls (made a t .table))
+verdicts-then :
+    (before calls : List Call) (t : List Row) → verdicts (before ++ calls) t ≡ verdicts before t ++ verdicts calls (tableAfter before t)
+verdicts-then [] calls t = refl
+verdicts-then (a ∷ before) calls t = ap (λ ns. verdictNumber (made a t .verdict) ∷ ns) (verdicts-then before calls (made a t .table))
 
 -- a call that is done and leaves the table as it is, made n times
 module _ (a : Call) (t : List Row) (stays : made a t ≡ done t) where
@@ -119,10 +120,10 @@ module _ (a : Call) (t : List Row) (stays : made a t ≡ done t) where
   table-stays zero = refl
   table-stays (suc n) = ap (λ (m : Result). tableAfter (replicate n a) (m .table)) stays ∙ table-stays n
 
-  all-done : (n : ℕ) → outcomes (replicate n a) t ≡ replicate n 0
+  all-done : (n : ℕ) → verdicts (replicate n a) t ≡ replicate n 0
   all-done zero = refl
   all-done (suc n) =
-      ap (λ (m : Result). outcomeNumber (m .outcome) ∷ outcomes (replicate n a) (m .table)) stays
+      ap (λ (m : Result). verdictNumber (m .verdict) ∷ verdicts (replicate n a) (m .table)) stays
       ∙ ap (λ ns. 0 ∷ ns) (all-done n)
 
 -- such a call is a note of 12000 on the table with 24 readings of 12000
@@ -133,7 +134,7 @@ hot-24 : after (hot 24) ≡ hotTable
 unfolding hotTable soundTable soundRow note verdictOf batchGood tempGood nameLengthGood nameGood widthsGood nameCellsGood
 hot-24 = refl
 
-done-24 : outcomes (hot 24) emptyTable ≡ replicate 24 0
+done-24 : verdicts (hot 24) emptyTable ≡ replicate 24 0
 unfolding soundTable soundRow note verdictOf batchGood tempGood nameLengthGood nameGood widthsGood nameCellsGood
 done-24 = refl
 
@@ -155,12 +156,12 @@ module _ (n : ℕ) where
       ∙ ap (figures 7) (table-then (hot 24) (hot n) emptyTable ∙ ap (tableAfter (hot n)) hot-24 ∙ table-stays _ hotTable hot-stays n)
       ∙ hot-told
 
-  done-on : outcomes (hot (24 + n)) emptyTable ≡ replicate (24 + n) 0
+  done-on : verdicts (hot (24 + n)) emptyTable ≡ replicate (24 + n) 0
   done-on =
-      ap (λ calls. outcomes calls emptyTable) in-two
-      ∙ outcomes-then (hot 24) (hot n) emptyTable
-      ∙ ap (λ ns. ns ++ outcomes (hot n) (after (hot 24))) done-24
-      ∙ ap (λ ns. replicate 24 0 ++ ns) (ap (outcomes (hot n)) hot-24 ∙ all-done _ hotTable hot-stays n)
+      ap (λ calls. verdicts calls emptyTable) in-two
+      ∙ verdicts-then (hot 24) (hot n) emptyTable
+      ∙ ap (λ ns. ns ++ verdicts (hot n) (after (hot 24))) done-24
+      ∙ ap (λ ns. replicate 24 0 ++ ns) (ap (verdicts (hot n)) hot-24 ∙ all-done _ hotTable hot-stays n)
       ∙ replicate-append-replicate 24 n 0
 
 pub thousands-noted : ThousandsNoted

@@ -6,12 +6,13 @@ use mathlib.Core.List.{List, [], _∷_, _++_, map}
 use lib.IntN.{ℤ, pos, negℤ}
 use lib.ListN.{getD, set, replicate}
 use Rattle.refusal.specs.declared.Refusal.the-variants.{UnsoundRing}
+use Rattle.refusal.specs.Number.{verdictNumber}
 use Rattle.batch.specs.Good.{recordOf}
 use Rattle.history.specs.declared.Figures.{Figures}
 use Rattle.history.specs.declared.Figures.the-variants.{None, Of, Refused as NotAnswered}
 use Rattle.history.specs.declared.Row.{Row}
 use Rattle.history.specs.Table.{emptyRow, emptyTable}
-use Rattle.history.specs.History.{outcomeNumber, refused, figures}
+use Rattle.history.specs.History.{refused, figures}
 use Rattle.history.specs.Runs.{Call, noting, closing, made, tableAfter}
 
 -- ---- what the lists are made of
@@ -27,9 +28,9 @@ abbrev pub rowAt : ℕ → List Row → Row
 rowAt i t = getD t i emptyRow
 
 -- what calls answer, one after another
-abbrev pub outcomes : List Call → List Row → List ℕ
-outcomes [] t = []
-outcomes (a ∷ rest) t = outcomeNumber (made a t .outcome) ∷ outcomes rest (made a t .table)
+abbrev pub verdicts : List Call → List Row → List ℕ
+verdicts [] t = []
+verdicts (a ∷ rest) t = verdictNumber (made a t .verdict) ∷ verdicts rest (made a t .table)
 
 -- a row by its fields: the batch, the count, the 24 cells
 abbrev pub row : ℕ → ℕ → List ℤ → Row
@@ -53,7 +54,7 @@ firstReading = reading 7 (pos 612) ∷ []
 
 pub record OneReading : Type 0 where
   pub none-before : figures 7 emptyTable ≡ None
-  pub answered : outcomes firstReading emptyTable ≡ 0 ∷ []
+  pub answered : verdicts firstReading emptyTable ≡ 0 ∷ []
   pub taken : after firstReading ≡ row 7 1 (pos 612 ∷ zeros 23) ∷ replicate 127 (row 0 0 (zeros 24))
   pub told : figures 7 (after firstReading) ≡ tells (pos 612) (pos 612) (pos 612)
   pub none-of-another : figures 8 (after firstReading) ≡ None
@@ -64,7 +65,7 @@ rising n = map (λ x. reading 7 (pos x)) (from 1 n)
 
 -- all of 24 stay, and the oldest makes way for the 25th
 pub record OldestGoes : Type 0 where
-  pub answered : outcomes (rising 25) emptyTable ≡ replicate 25 0
+  pub answered : verdicts (rising 25) emptyTable ≡ replicate 25 0
   pub row-of-23 : rowAt 0 (after (rising 23)) ≡ row 7 23 (map pos (from 1 23) ++ zeros 1)
   pub row-of-24 : rowAt 0 (after (rising 24)) ≡ row 7 24 (map pos (from 1 24))
   pub told-of-24 : figures 7 (after (rising 24)) ≡ tells (pos 1) (pos 24) (pos 300)
@@ -105,14 +106,14 @@ hot n = replicate n (reading 7 (pos 12000))
 pub record ThousandsNoted : Type 0 where
   pub from-24-on : (n : ℕ) → 24 ≤ n → figures 7 (after (hot n)) ≡ tells (pos 12000) (pos 12000) (pos 288000)
   pub five-thousand : figures 7 (after (hot 5000)) ≡ tells (pos 12000) (pos 12000) (pos 288000)
-  pub all-taken : outcomes (hot 5000) emptyTable ≡ replicate 5000 0
+  pub all-taken : verdicts (hot 5000) emptyTable ≡ replicate 5000 0
 
 -- the edges of the range, and just beyond
 abbrev pub atEdges : List Call
 atEdges = reading 7 (negℤ (pos 4000)) ∷ reading 7 (pos 12000) ∷ reading 7 (negℤ (pos 4001)) ∷ reading 7 (pos 12001) ∷ []
 
 pub record RangeEdges : Type 0 where
-  pub answered : outcomes atEdges emptyTable ≡ 0 ∷ 0 ∷ 12 ∷ 12 ∷ []
+  pub answered : verdicts atEdges emptyTable ≡ 0 ∷ 0 ∷ 12 ∷ 12 ∷ []
   pub taken : rowAt 0 (after atEdges) ≡ row 7 2 (negℤ (pos 4000) ∷ pos 12000 ∷ zeros 22)
 
 -- ---- several batches
@@ -124,7 +125,7 @@ abbrev pub firstReplaced : List Call
 firstReplaced = firstClosed ++ reading 9 (pos 3) ∷ []
 
 pub record Closed : Type 0 where
-  pub answered : outcomes firstReplaced emptyTable ≡ 0 ∷ 0 ∷ 0 ∷ 0 ∷ []
+  pub answered : verdicts firstReplaced emptyTable ≡ 0 ∷ 0 ∷ 0 ∷ 0 ∷ []
   pub all-zero : after (rising 24 ++ closing 7 ∷ []) ≡ emptyTable
   pub emptied : rowAt 0 (after firstClosed) ≡ row 0 0 (zeros 24)
   pub none-then : figures 7 (after firstClosed) ≡ None
@@ -141,7 +142,7 @@ pub record Closed : Type 0 where
 
 -- closing and asking where there is no row
 pub record NoRow : Type 0 where
-  pub answered : outcomes (closing 7 ∷ closing 0 ∷ []) emptyTable ≡ 0 ∷ 0 ∷ []
+  pub answered : verdicts (closing 7 ∷ closing 0 ∷ []) emptyTable ≡ 0 ∷ 0 ∷ []
   pub as-before : after (closing 7 ∷ closing 0 ∷ []) ≡ emptyTable
   pub zero-told : figures 0 emptyTable ≡ None
   pub in-use : after (firstReading ++ closing 8 ∷ closing 0 ∷ []) ≡ after firstReading
@@ -157,7 +158,7 @@ pub record FullTable : Type 0 where
   pub filled : after (map (λ b. reading b (pos b)) (from 1 128)) ≡ full
   pub told : figures 64 full ≡ tells (pos 64) (pos 64) (pos 64)
   -- 29 only where the batch has no row and none is empty
-  pub answered : outcomes onFull full ≡ 29 ∷ 0 ∷ 0 ∷ 0 ∷ []
+  pub answered : verdicts onFull full ≡ 29 ∷ 0 ∷ 0 ∷ 0 ∷ []
   pub own-row : rowAt 127 (tableAfter onFull full) ≡ row 128 2 (pos 128 ∷ pos 4 ∷ zeros 22)
   pub freed-row : rowAt 4 (tableAfter onFull full) ≡ row 129 1 (pos 9 ∷ zeros 23)
 
@@ -173,7 +174,7 @@ badRecords = reading 0 (pos 0) ∷ reading 129 (pos 12001) ∷ longName ∷ badN
 
 -- 11 to 14 before 29
 pub record RecordFirst : Type 0 where
-  pub answered : outcomes badRecords full ≡ 11 ∷ 12 ∷ 13 ∷ 14 ∷ 29 ∷ []
+  pub answered : verdicts badRecords full ≡ 11 ∷ 12 ∷ 13 ∷ 14 ∷ 29 ∷ []
   pub as-before : tableAfter badRecords full ≡ full
 
 -- the names `A` with a blank behind it, and one blank: good records, though no send takes them
@@ -182,7 +183,7 @@ blankEnded =
     noting (recordOf 7 3 (pos 612) 2 (0x41 ∷ 0x20 ∷ replicate 30 0)) ∷ noting (recordOf 7 3 (pos 613) 1 (0x20 ∷ replicate 31 0)) ∷ []
 
 pub record BlankEndsNoted : Type 0 where
-  pub answered : outcomes blankEnded emptyTable ≡ 0 ∷ 0 ∷ []
+  pub answered : verdicts blankEnded emptyTable ≡ 0 ∷ 0 ∷ []
   pub taken : rowAt 0 (after blankEnded) ≡ row 7 2 (pos 612 ∷ pos 613 ∷ zeros 22)
 
 -- ---- unsound tables: every call is refused with 25 and changes nothing, also where the record is bad or the batch has no row
@@ -192,7 +193,7 @@ pub record Says25 (t : List Row) : Type 0 where
 
 -- and a sound one, for comparison: a batch that has no row there is closed
 abbrev pub Accepted : List Row → Type 0
-Accepted t = outcomes (closing 200 ∷ []) t ≡ 0 ∷ []
+Accepted t = verdicts (closing 200 ∷ []) t ≡ 0 ∷ []
 
 -- the empty table with another row 3
 abbrev pub with3 : Row → List Row

@@ -9,39 +9,31 @@ use lib.Signed.{ltZ}
 use lib.ListN.{length, drop, set}
 use Rattle.refusal.specs.declared.Refusal.{Refusal}
 use Rattle.refusal.specs.declared.Refusal.the-variants.{UnsoundRing, NoEmptyRow}
-use Rattle.refusal.specs.Number.{numberOf}
+use Rattle.refusal.specs.declared.Verdict.{Verdict}
+use Rattle.refusal.specs.declared.Verdict.the-variants.{Passed, Refused}
 use Rattle.batch.specs.declared.BatchRecord.{BatchRecord}
-use Rattle.batch.specs.declared.Verdict.{Verdict}
-use Rattle.batch.specs.declared.Verdict.the-variants.{Good, Refused as Bad}
 use Rattle.batch.specs.Good.{unless, verdictOf}
 use Rattle.history.specs.declared.Figures.{Figures}
 use Rattle.history.specs.declared.Figures.the-variants.{None, Of, Refused as NotAnswered}
-use Rattle.history.specs.declared.Outcome.{Outcome}
-use Rattle.history.specs.declared.Outcome.the-variants.{Done, Refused}
 use Rattle.history.specs.declared.Row.{Row}
 use Rattle.history.specs.Table.{readingLimit, rowWith, emptyRow, soundTable, hasRow, rowOf, hasEmpty, lowestEmpty, readingsIn}
-
--- the number of an outcome: that of the refusal, or 0
-abbrev pub outcomeNumber : Outcome → ℕ
-outcomeNumber Done = 0
-outcomeNumber (Refused r) = numberOf r
 
 -- the table after a call, and what the call answered
 pub record Result : Type 0 where
   pub table : List Row
-  pub outcome : Outcome
+  pub verdict : Verdict
 
 -- a refused call leaves the table as it was
 abbrev pub refused : Refusal → List Row → Result
-refused r t = record { table = t; outcome = Refused r }
+refused r t = record { table = t; verdict = Refused r }
 
 abbrev pub done : List Row → Result
-done t = record { table = t; outcome = Done }
+done t = record { table = t; verdict = Passed }
 
 -- what a good record leads to, or the refusal of a bad one
 abbrev pub judged {ℓ} : {A : Type ℓ} → Verdict → (Refusal → A) → A → A
-judged Good refusal later = later
-judged (Bad r) refusal later = refusal r
+judged Passed refusal later = later
+judged (Refused r) refusal later = refusal r
 
 -- ---- note
 -- the last n of a list

@@ -10,11 +10,10 @@ use lib.Dec.{eqb}
 use lib.IntN.{ℤ}
 use lib.ListN.{getD}
 use Rattle.refusal.specs.declared.Refusal.the-variants.{BlankEnd}
+use Rattle.refusal.specs.declared.Verdict.{Verdict}
+use Rattle.refusal.specs.declared.Verdict.the-variants.{Passed, Refused}
 use Rattle.batch.specs.declared.BatchRecord.{BatchRecord}
-use Rattle.batch.specs.declared.Verdict.the-variants.{Refused as Bad}
 use Rattle.batch.specs.Good.{sendVerdict}
-use Rattle.history.specs.declared.Outcome.{Outcome}
-use Rattle.history.specs.declared.Outcome.the-variants.{Done, Refused}
 use Rattle.history.specs.declared.Row.{Row}
 use Rattle.history.specs.Table.{readingLimit, emptyRow, emptyTable, soundTable, hasRow, hasEmpty, readingsIn}
 use Rattle.history.specs.History.{Result, done, note, withReading, close, figures, figuresOf, lastOf}
@@ -33,15 +32,15 @@ tableAfter [] t = t
 tableAfter (a ∷ rest) t = tableAfter rest (made a t .table)
 
 -- the temperatures accepted for batch b since its last close, oldest first: xs before a call, and after it
-abbrev pub accepts : ℕ → Call → Outcome → List ℤ → List ℤ
+abbrev pub accepts : ℕ → Call → Verdict → List ℤ → List ℤ
 accepts b a (Refused r) xs = xs
-accepts b (noting x) Done xs = cond (eqb (x .batch .0) b) (xs ++ x .temperature ∷ []) xs
-accepts b (closing c) Done xs = cond (eqb c b) [] xs
+accepts b (noting x) Passed xs = cond (eqb (x .batch .0) b) (xs ++ x .temperature ∷ []) xs
+accepts b (closing c) Passed xs = cond (eqb c b) [] xs
 
 -- and after a list of calls on the table t
 abbrev pub accepted : ℕ → List Call → List Row → List ℤ → List ℤ
 accepted b [] t xs = xs
-accepted b (a ∷ rest) t xs = accepted b rest (made a t .table) (accepts b a (made a t .outcome) xs)
+accepted b (a ∷ rest) t xs = accepted b rest (made a t .table) (accepts b a (made a t .verdict) xs)
 
 -- the table stays sound
 abbrev pub StaysSound : Type 0
@@ -71,5 +70,5 @@ OthersUntouched = (a : Call) (t : List Row) (b : ℕ) → batchOf a ≢ b → re
 abbrev pub TakesBlankEnds : Type 0
 TakesBlankEnds =
     (x : BatchRecord) (t : List Row) →
-    sendVerdict x ≡ Bad BlankEnd → soundTable t ≡ true → (hasRow (x .batch .0) t || hasEmpty t) ≡ true →
+    sendVerdict x ≡ Refused BlankEnd → soundTable t ≡ true → (hasRow (x .batch .0) t || hasEmpty t) ≡ true →
     note x t ≡ done (withReading (x .batch .0) (x .temperature) t)

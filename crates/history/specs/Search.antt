@@ -8,13 +8,13 @@ use lib.IntN.{ℤ}
 use lib.ListN.{set, replicate}
 use Rattle.refusal.specs.declared.Refusal.{Refusal}
 use Rattle.refusal.specs.declared.Refusal.the-variants.{UnsoundRing, NoEmptyRow}
+use Rattle.refusal.specs.declared.Verdict.the-variants.{Passed, Refused}
 use Rattle.batch.specs.declared.BatchNo.{BatchNo}
 use Rattle.batch.specs.declared.BatchRecord.{BatchRecord}
 use Rattle.batch.specs.Good.{isZero, unless, verdictOf}
 use Rattle.history.specs.declared.Decision.{Decision}
 use Rattle.history.specs.declared.Figures.{Figures}
 use Rattle.history.specs.declared.Figures.the-variants.{Refused as NotAnswered}
-use Rattle.history.specs.declared.Outcome.the-variants.{Done, Refused}
 use Rattle.history.specs.declared.Row.{Row}
 use Rattle.history.specs.declared.Search.{Search}
 use Rattle.history.specs.Table.{rowLimit, rowWith, emptyRow, soundRow, placeOf, holds, noneTwice, readingsOf}
@@ -45,7 +45,7 @@ abbrev pub noRow : ℕ
 noRow = 2 ^ 64 - 1
 
 abbrev pub decide : ℕ → Row → Decision
-decide at r = record { at = at; row = r; answer = Done }
+decide at r = record { at = at; row = r; answer = Passed }
 
 abbrev pub unchanged : Refusal → Decision
 unchanged r = record { at = noRow; row = emptyRow; answer = Refused r }

@@ -4,10 +4,10 @@
 // The three calls on the lent table are the last functions here; all they do is by value in the functions before them.
 use batch::BatchNo;
 use batch::BatchRecord;
-use batch::Verdict;
 use batch::in_range;
 use batch::judge;
 use refusal::Refusal;
+use refusal::Verdict;
 ghost use mathlib.Core.Path.{_≡_};
 ghost use mathlib.Core.Bool.{cond, _&&_};
 ghost use Prim.Native.Nat.{_+_, _-_, _≤_, _<_};
@@ -31,11 +31,6 @@ pub struct Row {
     pub count: u32,
     // In hundredths of a degree: `count` readings, oldest first, then zeros.
     pub readings: [i16; Row::READINGS],
-}
-
-pub enum Outcome {
-    Done,
-    Refused(Refusal),
 }
 
 pub struct Summary {
@@ -66,7 +61,7 @@ pub struct Search {
 struct Decision {
     at: usize,
     row: Row,
-    answer: Outcome,
+    answer: Verdict,
 }
 
 // No slice has a row of this number.
@@ -305,7 +300,7 @@ fn done_at(at: usize, row: Row) -> Decision
     Decision {
         at,
         row,
-        answer: Outcome::Done,
+        answer: Verdict::Passed,
     }
 }
 
@@ -315,7 +310,7 @@ fn unchanged(refusal: Refusal) -> Decision
     Decision {
         at: NO_ROW,
         row: Row::empty(),
-        answer: Outcome::Refused(refusal),
+        answer: Verdict::Refused(refusal),
     }
 }
 
@@ -338,7 +333,7 @@ fn to_note(search: Search, record: BatchRecord) -> Decision
         return unchanged(Refusal::UnsoundRing);
     }
     match judge(record) {
-        Verdict::Good => note_good(search, record.batch, record.temperature),
+        Verdict::Passed => note_good(search, record.batch, record.temperature),
         Verdict::Refused(refusal) => unchanged(refusal),
     }
 }
@@ -432,8 +427,8 @@ fn to_tell(search: Search, batch: BatchNo) -> Figures
 // ---- the calls on the lent table. A loop goes over all of it, so that nothing of it is taken on trust.
 
 // A record is noted: its temperature joins the readings of its batch.
-pub fn note(table: &mut [Row], record: BatchRecord) -> Outcome
-    ensures { λ r. ⌜ (now (table .exit) ≡ note «record» (now (table .entry)) .table) × (r ≡ note «record» (now (table .entry)) .outcome) ⌝ }
+pub fn note(table: &mut [Row], record: BatchRecord) -> Verdict
+    ensures { λ r. ⌜ (now (table .exit) ≡ note «record» (now (table .entry)) .table) × (r ≡ note «record» (now (table .entry)) .verdict) ⌝ }
 {
     let mut search = begin_for(record);
     let mut i = 0;
@@ -451,8 +446,8 @@ pub fn note(table: &mut [Row], record: BatchRecord) -> Outcome
 }
 
 // A batch is closed: its whole row becomes zero. One that has no row changes nothing.
-pub fn close(table: &mut [Row], batch: BatchNo) -> Outcome
-    ensures { λ r. ⌜ (now (table .exit) ≡ close (batch .0) (now (table .entry)) .table) × (r ≡ close (batch .0) (now (table .entry)) .outcome) ⌝ }
+pub fn close(table: &mut [Row], batch: BatchNo) -> Verdict
+    ensures { λ r. ⌜ (now (table .exit) ≡ close (batch .0) (now (table .entry)) .table) × (r ≡ close (batch .0) (now (table .entry)) .verdict) ⌝ }
 {
     let mut search = begin(batch);
     let mut i = 0;

@@ -9,8 +9,8 @@ use mathlib.Core.Option.{none, some}
 use lib.IntN.{pos}
 use lib.ListN.{length, replicate}
 use Rattle.refusal.specs.declared.Refusal.the-variants.{BlankEnd}
+use Rattle.refusal.specs.declared.Verdict.the-variants.{Refused}
 use Rattle.batch.specs.declared.BatchRecord.{BatchRecord}
-use Rattle.batch.specs.declared.Verdict.the-variants.{Refused}
 use Rattle.batch.specs.Good.{every, blankEnds, sendVerdict}
 use Rattle.numbers.specs.declared.ChannelNo.{ChannelNo}
 use Rattle.network.specs.declared.Ring.{Ring}

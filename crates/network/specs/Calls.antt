@@ -9,9 +9,9 @@ use lib.Dec.{leb, ltb}
 use lib.ListN.{length}
 use Rattle.refusal.specs.declared.Refusal.{Refusal}
 use Rattle.refusal.specs.declared.Refusal.the-variants.{AlreadyStarted, NodesFull, BadSlots, ChannelsFull, NoSuchEnd, NothingToStart, TooFewSlots, NotStarted, NoSuchChannel, NotResting, AlreadyOffered, NoSuchNode, LineEmpty, NoFreeSlot, BufferEmpty, NextBufferFull, TurnMarkSet, NotAsking, RequestInBuffer}
+use Rattle.refusal.specs.declared.Verdict.{Verdict}
+use Rattle.refusal.specs.declared.Verdict.the-variants.{Passed, Refused}
 use Rattle.batch.specs.declared.BatchRecord.{BatchRecord}
-use Rattle.batch.specs.declared.Verdict.{Verdict}
-use Rattle.batch.specs.declared.Verdict.the-variants.{Good, Refused}
 use Rattle.batch.specs.Good.{sendVerdict}
 pub use Rattle.batch.specs.Good.{unless}
 use Rattle.numbers.specs.declared.NodeNo.{NodeNo}
@@ -130,7 +130,7 @@ offerTo k x σ = cond (isReady (channel σ k .phase)) (respond k x σ) (withChan
 
 -- a bad record is refused with its own number
 abbrev pub ifGood : Verdict → Outcome Network → Outcome Network
-ifGood Good o = o
+ifGood Passed o = o
 ifGood (Refused r) o = refused r
 
 -- the node in whose buffer channel k stands, if it stands in one of the first n

@@ -5,10 +5,11 @@ use mathlib.Core.Path.{_≡_}
 use mathlib.Core.List.{List, [], _∷_, _++_, map}
 use lib.IntN.{ℤ, pos, negℤ}
 use lib.ListN.{length, getD, replicate}
+use Rattle.refusal.specs.Number.{verdictNumber}
 use Rattle.batch.specs.declared.BatchRecord.{BatchRecord}
 use Rattle.batch.specs.declared.sending.Scale.{Scale}
 use Rattle.batch.specs.declared.sending.Scale.the-variants.{Tenths, Hundredths}
-use Rattle.batch.specs.Good.{verdictNumber, sendVerdict}
+use Rattle.batch.specs.Good.{sendVerdict}
 use Rattle.batch.specs.Sending.{asHundredths}
 use Rattle.numbers.specs.declared.NodeNo.{NodeNo}
 use Rattle.numbers.specs.declared.ChannelNo.{ChannelNo}

@@ -9,10 +9,10 @@ use network::Records;
 use network::Ring;
 use numbers::NodeNo;
 use refusal::Refusal;
+use refusal::Verdict;
 use soundness;
 use updates::answer::accept;
 use updates::answer::refuse;
-use updates::opening::Opening;
 use updates::opening::Subject;
 use updates::opening::open;
 ghost use mathlib.Core.Path.{_≡_};
@@ -35,7 +35,7 @@ pub fn add_node(
         (ringIn head (now (slots .entry)) (now (lines .entry)) (now (offers .entry)) (now (carried .entry)))) ⌝ }
 {
     let opening = open(head, slots, lines, offers, carried, Subject::Plan);
-    if let Opening::Refused(refusal) = opening {
+    if let Verdict::Refused(refusal) = opening {
         return refuse(head, refusal);
     }
     let count = head.node_count;
@@ -69,7 +69,7 @@ pub fn add_channel(
         (ringIn head (now (slots .entry)) (now (lines .entry)) (now (offers .entry)) (now (carried .entry)))) ⌝ }
 {
     let opening = open(head, slots, lines, offers, carried, Subject::Plan);
-    if let Opening::Refused(refusal) = opening {
+    if let Verdict::Refused(refusal) = opening {
         return refuse(head, refusal);
     }
     let nodes = head.node_count;
@@ -104,7 +104,7 @@ pub fn start(
         (ringIn head (now (slots .entry)) (now (lines .entry)) (now (offers .entry)) (now (carried .entry)))) ⌝ }
 {
     let opening = open(head, slots, lines, offers, carried, Subject::Plan);
-    if let Opening::Refused(refusal) = opening {
+    if let Verdict::Refused(refusal) = opening {
         return refuse(head, refusal);
     }
     let channels = head.channel_count;

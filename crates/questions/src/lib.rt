@@ -12,7 +12,7 @@ use network::Ring;
 use numbers::ChannelNo;
 use numbers::NodeNo;
 use refusal::Refusal;
-use updates::opening::Opening;
+use refusal::Verdict;
 use updates::opening::Subject;
 use updates::opening::open;
 ghost use mathlib.Core.Path.{_≡_};
@@ -64,7 +64,7 @@ fn hops_left(
 {
     let subject = Subject::Channel(channel);
     let opening = open(head, slots, lines, offers, carried, subject);
-    if let Opening::Refused(refusal) = opening {
+    if let Verdict::Refused(refusal) = opening {
         return Answer::Refused(refusal);
     }
     let left = hops_of(head, slots, channel.0);
@@ -132,7 +132,7 @@ fn waiting_set(
 {
     let subject = Subject::Tasks(node);
     let opening = open(head, slots, lines, offers, carried, subject);
-    if let Opening::Refused(refusal) = opening {
+    if let Verdict::Refused(refusal) = opening {
         return Answer::Refused(refusal);
     }
     let set = set_of(head, node.0);

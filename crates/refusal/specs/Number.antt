@@ -1,5 +1,5 @@
--- The number of each refusal, as document 01 has it, and what the list promises: no two refusals share a number, and the
--- numbers are 1 to 30. Assumes nothing.
+-- The number of each refusal and of a verdict, as document 01 has it, and what the list promises: no two refusals share a number, and the
+-- numbers are 1 to 30, so that 0 says that there was no refusal.
 use mathlib.Core.Path.{_≡_}
 use Prim.Native.Nat.{ℕ, _≤_}
 use Rattle.refusal.specs.declared.Refusal.{Refusal}
@@ -9,6 +9,8 @@ use Rattle.refusal.specs.declared.Refusal.the-variants.{BatchNumberZero,
 use Rattle.refusal.specs.declared.Refusal.the-variants.{AlreadyOffered, NoSuchNode, LineEmpty, NoFreeSlot, BufferEmpty, NextBufferFull}
 use Rattle.refusal.specs.declared.Refusal.the-variants.{TurnMarkSet, UnknownCommand, CommandCut, PlaceBeyondEnd, UnsoundRing, NoRoomToWrite}
 use Rattle.refusal.specs.declared.Refusal.the-variants.{NotAsking, RequestInBuffer, NoEmptyRow, BlankEnd}
+use Rattle.refusal.specs.declared.Verdict.{Verdict}
+use Rattle.refusal.specs.declared.Verdict.the-variants.{Passed, Refused}
 
 abbrev pub numberOf : Refusal → ℕ
 numberOf AlreadyStarted = 1
@@ -41,6 +43,11 @@ numberOf NotAsking = 27
 numberOf RequestInBuffer = 28
 numberOf NoEmptyRow = 29
 numberOf BlankEnd = 30
+
+-- the number of a verdict: that of the refusal, or 0
+abbrev pub verdictNumber : Verdict → ℕ
+verdictNumber Passed = 0
+verdictNumber (Refused r) = numberOf r
 
 -- two refusals never share a number
 abbrev pub OneMeaning : Type 0

@@ -1,7 +1,8 @@
 // The refusals of the vessel ring, one list for every operation: each has a name, a number and one meaning.
 // The number is what a caller and a fitter see (docs/REFUSALS.md); an operation answers the first refusal that applies.
+// A verdict is such an answer where there is nothing more to tell.
 ghost use mathlib.Core.Path.{_≡_};
-ghost use Rattle.refusal.specs.Number.{numberOf};
+ghost use Rattle.refusal.specs.Number.{numberOf, verdictNumber};
 
 pub enum Refusal {
     // The ring has already started.
@@ -66,6 +67,12 @@ pub enum Refusal {
     BlankEnd,
 }
 
+// What a test or a call that answers nothing more comes to: it passed, or the first refusal that applies.
+pub enum Verdict {
+    Passed,
+    Refused(Refusal),
+}
+
 impl Refusal {
     // The number of the refusal, from 1 to 30.
     pub fn number(self) -> u8
@@ -102,6 +109,18 @@ impl Refusal {
             Refusal::RequestInBuffer => 28,
             Refusal::NoEmptyRow => 29,
             Refusal::BlankEnd => 30,
+        }
+    }
+}
+
+impl Verdict {
+    // The number of the refusal, or 0 where it passed.
+    pub fn number(self) -> u8
+        ensures { λ r. ⌜ r ≡ verdictNumber self ⌝ }
+    {
+        match self {
+            Verdict::Passed => 0,
+            Verdict::Refused(refusal) => refusal.number(),
         }
     }
 }

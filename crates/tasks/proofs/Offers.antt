@@ -9,8 +9,8 @@ use mathlib.Core.Option.{none}
 use borrow.Author.Tests.{lt-ltb}
 use Rattle.refusal.specs.declared.Refusal.{Refusal}
 use Rattle.refusal.specs.declared.Refusal.the-variants.{NotResting, AlreadyOffered}
+use Rattle.refusal.specs.declared.Verdict.the-variants.{Passed, Refused}
 use Rattle.batch.specs.declared.BatchRecord.{BatchRecord}
-use Rattle.batch.specs.declared.Verdict.the-variants.{Good, Refused}
 use Rattle.batch.specs.Good.{sendVerdict}
 use Rattle.batch.proofs.Good.{sent-exactly}
 use Rattle.wire.specs.Record.{RecordFits}
@@ -108,7 +108,7 @@ module _ {ring : Ring} {k : ℕ} (h : AtChannel ring k) where
     pub send-bad : (r : Refusal) → sendVerdict x ≡ Refused r → callRing (Runs.send (channelNo k) x) ring ≡ refused r
     send-bad r bad = send-in-memory ∙ ap heldOutcome send-called ∙ rw bad
 
-    module _ (good : sendVerdict x ≡ Good) where
+    module _ (good : sendVerdict x ≡ Passed) where
       x-fits : RecordFits x
       x-fits = good-fits x (sent-exactly x .0 good .0)
 

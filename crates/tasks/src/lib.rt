@@ -2,7 +2,6 @@
 //
 // Each takes the head of a ring by value, with the cells and the records lent where they lie, and answers the head after the call and the
 // reply. It opens as every call does; then come its own refusals in the order of document 01, and a refusal leaves the ring as it was.
-use batch::Verdict;
 use batch::sending;
 use batch::sending::Fields;
 use batch::sending::Scale;
@@ -13,9 +12,9 @@ use network::Records;
 use network::Ring;
 use numbers::ChannelNo;
 use refusal::Refusal;
+use refusal::Verdict;
 use updates::answer::accept;
 use updates::answer::refuse;
-use updates::opening::Opening;
 use updates::opening::Subject;
 use updates::opening::open;
 ghost use mathlib.Core.Path.{_≡_};
@@ -40,7 +39,7 @@ pub fn receive(
 {
     let subject = Subject::Channel(channel);
     let opening = open(head, slots, lines, offers, carried, subject);
-    if let Opening::Refused(refusal) = opening {
+    if let Verdict::Refused(refusal) = opening {
         return refuse(head, refusal);
     }
     let k = channel.0 as usize;
@@ -70,7 +69,7 @@ pub fn withdraw(
 {
     let subject = Subject::Channel(channel);
     let opening = open(head, slots, lines, offers, carried, subject);
-    if let Opening::Refused(refusal) = opening {
+    if let Verdict::Refused(refusal) = opening {
         return refuse(head, refusal);
     }
     let k = channel.0 as usize;
@@ -110,7 +109,7 @@ pub fn send(
 {
     let subject = Subject::Channel(channel);
     let opening = open(head, slots, lines, offers, carried, subject);
-    if let Opening::Refused(refusal) = opening {
+    if let Verdict::Refused(refusal) = opening {
         return refuse(head, refusal);
     }
     let sent = sending::make(scale, fields);

@@ -12,9 +12,9 @@ use network::Ring;
 use numbers::ChannelNo;
 use numbers::NodeNo;
 use refusal::Refusal;
+use refusal::Verdict;
 use updates::answer::accept;
 use updates::answer::refuse;
-use updates::opening::Opening;
 use updates::opening::Subject;
 use updates::opening::open;
 ghost use mathlib.Core.Path.{_≡_};
@@ -43,7 +43,7 @@ pub fn enter(
 {
     let subject = Subject::Node(node);
     let opening = open(head, slots, lines, offers, carried, subject);
-    if let Opening::Refused(refusal) = opening {
+    if let Verdict::Refused(refusal) = opening {
         return refuse(head, refusal);
     }
     enter_at(head, slots, lines, offers, carried, node)
@@ -100,7 +100,7 @@ pub fn move_on(
 {
     let subject = Subject::Node(node);
     let opening = open(head, slots, lines, offers, carried, subject);
-    if let Opening::Refused(refusal) = opening {
+    if let Verdict::Refused(refusal) = opening {
         return refuse(head, refusal);
     }
     move_at(head, slots, lines, offers, carried, node)

@@ -1,5 +1,5 @@
 -- What every call opens with. The opening is judged by the numbers of the head; on a sound ring these tests are the first ones of the call
--- itself, so a refused opening is the call's refusal, and an open one says where the call stands. Then how a call in memory is a call on the
+-- itself, so a refused opening is the call's refusal, and one that passed says where the call stands. Then how a call in memory is a call on the
 -- ring that it holds, and what the code's answer says of it. Assumes nothing.
 use Prim.Native.Nat.{ℕ, _<_}
 use mathlib.Core.Path.{_≡_, refl, sym, ap, _∙_}
@@ -7,12 +7,16 @@ use mathlib.Core.Logic.{_≢_}
 use mathlib.Core.Bool.{Bool, true, false, not}
 use mathlib.Core.List.{[], _∷_}
 use native.Mathlib.Omega.{arith}
-use types.Run.{OneOf, miss}
+use types.Run.{OneOf}
 use denote.Enum.Declared.{tagOf}
 use lib.Dec.{ltb}
 use borrow.Author.Tests.{ltb-true, ne-eqb}
 use Rattle.refusal.specs.declared.Refusal.{Refusal}
 use Rattle.refusal.specs.declared.Refusal.the-variants.{UnsoundRing, AlreadyStarted, NotStarted, NoSuchChannel, NoSuchNode}
+use Rattle.refusal.specs.declared.Verdict.{Verdict}
+use Rattle.refusal.specs.declared.Verdict.the-variants.{Passed, Refused}
+use Rattle.refusal.proofs.Verdict.{the-type}
+use Rattle.refusal.proofs.Verdicts.{no-refusal}
 use Rattle.numbers.specs.declared.ChannelNo.{ChannelNo}
 use Rattle.numbers.specs.declared.NodeNo.{NodeNo}
 use Rattle.network.specs.declared.Ring.{Ring}
@@ -31,12 +35,9 @@ use Rattle.network.proofs.Memory.Held.{Fits, Held, sound-ring, sound-fits}
 use Rattle.network.proofs.Lists.Bridge.{call-sound}
 use Rattle.updates.specs.declared.opening.Subject.{Subject}
 use Rattle.updates.specs.declared.opening.Subject.the-variants.{Plan, Channel, Node, Tasks}
-use Rattle.updates.specs.declared.opening.Opening.{Opening}
-use Rattle.updates.specs.declared.opening.Opening.the-variants.{Open, Refused}
 use Rattle.updates.specs.Answered.{refusedStep, doneStep}
 use Rattle.updates.specs.Known.{Planned, AtNode, AtChannel, AskedAt}
 use Rattle.updates.specs.Openings.{subjectOf, begun, beforeStart, afterStart, inCount, soundOpening, openingOf}
-use Rattle.updates.proofs.opening.Opening.{the-type}
 
 -- the call on a ring in memory
 
@@ -88,17 +89,17 @@ module _ (ring : Ring) (ok : soundRing ring ≡ true) where
 
 -- the tests of an opening are the first tests of the call: where one of them fails, the call is refused with the same number
 
-test-refused : (b : Bool) (x : Refusal) (rest : Opening) (o : Outcome Network) {r : Refusal} → (rest ≡ Refused r → o ≡ refused r) →
+test-refused : (b : Bool) (x : Refusal) (rest : Verdict) (o : Outcome Network) {r : Refusal} → (rest ≡ Refused r → o ≡ refused r) →
     unless b (Refused x) rest ≡ Refused r → unless b (refused x) o ≡ refused r
 test-refused true x rest o next e = next e
 test-refused false x rest o {r} next e = let same : x ≡ r = cc in ap refused same
 
-never-refused : {r : Refusal} {o : Outcome Network} → Open ≡ Refused r → o ≡ refused r
+never-refused : {r : Refusal} {o : Outcome Network} → Passed ≡ Refused r → o ≡ refused r
 never-refused e = let z : _≡_ {A = ℕ} 0 1 = cc in absurd (omega arith)
 
 there-refused : {count n : ℕ} (k : ℕ) (none : Refusal) (o : Outcome Network) {r : Refusal} → count ≡ n → inCount count k none ≡ Refused r →
     unless (ltb k n) (refused none) o ≡ refused r
-there-refused {n = n} k none o same e = test-refused (ltb k n) none Open o never-refused (rw same at e)
+there-refused {n = n} k none o same e = test-refused (ltb k n) none Passed o never-refused (rw same at e)
 
 module _ (ring : Ring) (ok : soundRing ring ≡ true) where
   abbrev σ : Network
@@ -112,7 +113,7 @@ module _ (ring : Ring) (ok : soundRing ring ≡ true) where
 
   plan-refused : (o : Outcome Network) {r : Refusal} → beforeStart (ring .head .started) ≡ Refused r →
       unless (not (σ .started)) (refused AlreadyStarted) o ≡ refused r
-  plan-refused o e = test-refused (not (σ .started)) AlreadyStarted Open o never-refused (rw begun-is at e)
+  plan-refused o e = test-refused (not (σ .started)) AlreadyStarted Passed o never-refused (rw begun-is at e)
 
   going-refused : {count n : ℕ} (k : ℕ) (none : Refusal) (o : Outcome Network) {r : Refusal} → count ≡ n →
       afterStart (ring .head .started) count k none ≡ Refused r →
@@ -141,52 +142,48 @@ module _ (a : Call) (ring : Ring) where
       (λ bad. let same : Refused UnsoundRing ≡ Refused r = rw bad at e in let number : UnsoundRing ≡ r = cc in unsound-refused a ring bad ∙ ap refused number)
 
   -- the same of the code's answer to a call whose opening was refused
-  pub turns-away : {o : Opening} {r : Refusal} {s : HeadStep} → o ≡ openingOf ring (subjectOf a) → o ≡ Refused r →
+  pub turns-away : {o : Verdict} {r : Refusal} {s : HeadStep} → o ≡ openingOf ring (subjectOf a) → o ≡ Refused r →
       s ≡ refusedStep (ring .head) r → stepIn s (ring .slots) (ring .lines) (ring .offers) (ring .carried) ≡ stepOf ring (callRing a ring)
   turns-away same told e = refuses ring (opening-refused (sym same ∙ told)) e
 
 -- where an opening is not refused all its tests passed
 
-test-open : (b : Bool) (x : Refusal) (rest : Opening) → unless b (Refused x) rest ≡ Open → (b ≡ true) × (rest ≡ Open)
+test-open : (b : Bool) (x : Refusal) (rest : Verdict) → unless b (Refused x) rest ≡ Passed → (b ≡ true) × (rest ≡ Passed)
 test-open true x rest e = (refl, e)
 test-open false x rest e = let z : _≡_ {A = ℕ} 0 1 = cc in absurd (omega arith)
 
-is-open : (o : Opening) → OneOf (0 ∷ []) (tagOf the-type o) → o ≡ Open
-is-open Open k = refl
-is-open (Refused r) k = absurd (miss (0 ∷ []) 1 tt k)
-
 module _ (ring : Ring) where
-  sound-open : (subject : Subject) {o : Opening} → o ≡ openingOf ring subject → OneOf (0 ∷ []) (tagOf the-type o) →
-      (soundRing ring ≡ true) × (soundOpening ring subject ≡ Open)
-  sound-open subject {o} same told = test-open (soundRing ring) UnsoundRing (soundOpening ring subject) (sym same ∙ is-open o told)
+  sound-open : (subject : Subject) {o : Verdict} → o ≡ openingOf ring subject → OneOf (0 ∷ []) (tagOf the-type o) →
+      (soundRing ring ≡ true) × (soundOpening ring subject ≡ Passed)
+  sound-open subject {o} same told = test-open (soundRing ring) UnsoundRing (soundOpening ring subject) (sym same ∙ no-refusal o told)
 
-  going-open : (count k : ℕ) (none : Refusal) → afterStart (ring .head .started) count k none ≡ Open →
+  going-open : (count k : ℕ) (none : Refusal) → afterStart (ring .head .started) count k none ≡ Passed →
       (ring .head .started ≢ 0) × (k < count)
   going-open count k none e =
       let going = test-open (begun (ring .head .started)) NotStarted (inCount count k none) e in
-      let there = test-open (ltb k count) none Open (going .1) in
+      let there = test-open (ltb k count) none Passed (going .1) in
       (λ still. both-ways (going .0) (rw still), ltb-true k count (there .0))
 
-  pub plan-open : {o : Opening} → o ≡ openingOf ring Plan → OneOf (0 ∷ []) (tagOf the-type o) → Planned ring
+  pub plan-open : {o : Verdict} → o ≡ openingOf ring Plan → OneOf (0 ∷ []) (tagOf the-type o) → Planned ring
   plan-open same told =
       let sound = sound-open Plan same told in
-      let waits = test-open (not (begun (ring .head .started))) AlreadyStarted Open (sound .1) in
+      let waits = test-open (not (begun (ring .head .started))) AlreadyStarted Passed (sound .1) in
       record { ok = sound .0; still = by-same (ring .head .started) 0 (λ e. e) (λ d. both-ways (waits .0) (rw (ne-eqb _ 0 d))) }
 
-  pub channel-open : {k : ChannelNo} {o : Opening} → o ≡ openingOf ring (Channel k) → OneOf (0 ∷ []) (tagOf the-type o) → AtChannel ring (k .0)
+  pub channel-open : {k : ChannelNo} {o : Verdict} → o ≡ openingOf ring (Channel k) → OneOf (0 ∷ []) (tagOf the-type o) → AtChannel ring (k .0)
   channel-open {k} same told =
       let sound = sound-open (Channel k) same told in
       let rest = going-open (ring .head .«channel_count») (k .0) NoSuchChannel (sound .1) in
       record { ok = sound .0; going = rest .0; there = rest .1 }
 
-  pub node-open : {p : NodeNo} {o : Opening} → o ≡ openingOf ring (Node p) → OneOf (0 ∷ []) (tagOf the-type o) → AtNode ring (p .0)
+  pub node-open : {p : NodeNo} {o : Verdict} → o ≡ openingOf ring (Node p) → OneOf (0 ∷ []) (tagOf the-type o) → AtNode ring (p .0)
   node-open {p} same told =
       let sound = sound-open (Node p) same told in
       let rest = going-open (ring .head .«node_count») (p .0) NoSuchNode (sound .1) in
       record { ok = sound .0; going = rest .0; there = rest .1 }
 
-  pub tasks-open : {p : NodeNo} {o : Opening} → o ≡ openingOf ring (Tasks p) → OneOf (0 ∷ []) (tagOf the-type o) → AskedAt ring (p .0)
+  pub tasks-open : {p : NodeNo} {o : Verdict} → o ≡ openingOf ring (Tasks p) → OneOf (0 ∷ []) (tagOf the-type o) → AskedAt ring (p .0)
   tasks-open {p} same told =
       let sound = sound-open (Tasks p) same told in
-      let there = test-open (ltb (p .0) (ring .head .«node_count»)) NoSuchNode Open (sound .1) in
+      let there = test-open (ltb (p .0) (ring .head .«node_count»)) NoSuchNode Passed (sound .1) in
       record { ok = sound .0; there = ltb-true _ _ (there .0) }

@@ -4,14 +4,14 @@ use mathlib.Core.Bool.{Bool, not}
 use lib.Dec.{ltb, eqb}
 use Rattle.refusal.specs.declared.Refusal.{Refusal}
 use Rattle.refusal.specs.declared.Refusal.the-variants.{UnsoundRing, AlreadyStarted, NotStarted, NoSuchChannel, NoSuchNode}
+use Rattle.refusal.specs.declared.Verdict.{Verdict}
+use Rattle.refusal.specs.declared.Verdict.the-variants.{Passed, Refused}
 use Rattle.network.specs.declared.Ring.{Ring}
 use Rattle.network.specs.Calls.{unless}
 use Rattle.network.specs.Runs.{Call, addNode, addChannel, start, receive, send, enter, move, withdraw, hopsLeft, waitingSet}
 use Rattle.network.specs.Layout.{soundRing}
 use Rattle.updates.specs.declared.opening.Subject.{Subject}
 use Rattle.updates.specs.declared.opening.Subject.the-variants.{Plan, Channel, Node, Tasks}
-use Rattle.updates.specs.declared.opening.Opening.{Opening}
-use Rattle.updates.specs.declared.opening.Opening.the-variants.{Open, Refused}
 
 -- what a call is about
 abbrev pub subjectOf : Call → Subject
@@ -30,21 +30,21 @@ subjectOf (waitingSet p) = Tasks p
 abbrev pub begun : ℕ → Bool
 begun started = not (eqb started 0)
 
-abbrev pub beforeStart : ℕ → Opening
-beforeStart started = unless (not (begun started)) (Refused AlreadyStarted) Open
+abbrev pub beforeStart : ℕ → Verdict
+beforeStart started = unless (not (begun started)) (Refused AlreadyStarted) Passed
 
-abbrev pub inCount : ℕ → ℕ → Refusal → Opening
-inCount count number none = unless (ltb number count) (Refused none) Open
+abbrev pub inCount : ℕ → ℕ → Refusal → Verdict
+inCount count number none = unless (ltb number count) (Refused none) Passed
 
-abbrev pub afterStart : ℕ → ℕ → ℕ → Refusal → Opening
+abbrev pub afterStart : ℕ → ℕ → ℕ → Refusal → Verdict
 afterStart started count number none = unless (begun started) (Refused NotStarted) (inCount count number none)
 
-abbrev pub soundOpening : Ring → Subject → Opening
+abbrev pub soundOpening : Ring → Subject → Verdict
 soundOpening ring Plan = beforeStart (ring .head .started)
 soundOpening ring (Channel k) = afterStart (ring .head .started) (ring .head .«channel_count») (k .0) NoSuchChannel
 soundOpening ring (Node p) = afterStart (ring .head .started) (ring .head .«node_count») (p .0) NoSuchNode
 soundOpening ring (Tasks p) = inCount (ring .head .«node_count») (p .0) NoSuchNode
 
 -- an unsound ring is refused before all others
-abbrev pub openingOf : Ring → Subject → Opening
+abbrev pub openingOf : Ring → Subject → Verdict
 openingOf ring subject = unless (soundRing ring) (Refused UnsoundRing) (soundOpening ring subject)

@@ -6,6 +6,7 @@ use network::Records;
 use numbers::ChannelNo;
 use numbers::NodeNo;
 use refusal::Refusal;
+use refusal::Verdict;
 use soundness;
 ghost use mathlib.Core.Path.{_≡_};
 ghost use Rattle.network.specs.Layout.{ringIn};
@@ -22,13 +23,7 @@ pub enum Subject {
     Tasks(NodeNo),
 }
 
-// The call goes on, or is refused.
-pub enum Opening {
-    Open,
-    Refused(Refusal),
-}
-
-// The opening of a call about this subject.
+// The opening of a call about this subject: where it passed, the call goes on.
 pub fn open(
     head: Head,
     slots: &Cells,
@@ -36,12 +31,12 @@ pub fn open(
     offers: &Records,
     carried: &Records,
     subject: Subject,
-) -> Opening
+) -> Verdict
     ensures { λ r. ⌜ r
         ≡ openingOf (ringIn head (now (slots .entry)) (now (lines .entry)) (now (offers .entry)) (now (carried .entry))) subject ⌝ }
 {
     if !soundness::is_sound(head, slots, lines, offers, carried) {
-        return Opening::Refused(Refusal::UnsoundRing);
+        return Verdict::Refused(Refusal::UnsoundRing);
     }
     let started = head.started;
     let nodes = head.node_count;
@@ -60,31 +55,31 @@ pub fn open(
 }
 
 // Only a ring that has not started is built further.
-fn before_start(started: u8) -> Opening
+fn before_start(started: u8) -> Verdict
     ensures { λ r. ⌜ r ≡ beforeStart started ⌝ }
 {
     if started != 0 {
-        return Opening::Refused(Refusal::AlreadyStarted);
+        return Verdict::Refused(Refusal::AlreadyStarted);
     }
-    Opening::Open
+    Verdict::Passed
 }
 
 // The ring has started, and there is one of this number.
-fn after_start(started: u8, count: u8, number: u8, none: Refusal) -> Opening
+fn after_start(started: u8, count: u8, number: u8, none: Refusal) -> Verdict
     ensures { λ r. ⌜ r ≡ afterStart started count number none ⌝ }
 {
     if started == 0 {
-        return Opening::Refused(Refusal::NotStarted);
+        return Verdict::Refused(Refusal::NotStarted);
     }
     in_count(count, number, none)
 }
 
 // There is one of this number, or the call is refused with `none`.
-fn in_count(count: u8, number: u8, none: Refusal) -> Opening
+fn in_count(count: u8, number: u8, none: Refusal) -> Verdict
     ensures { λ r. ⌜ r ≡ inCount count number none ⌝ }
 {
     if count <= number {
-        return Opening::Refused(none);
+        return Verdict::Refused(none);
     }
-    Opening::Open
+    Verdict::Passed
 }

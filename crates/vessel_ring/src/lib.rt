@@ -24,6 +24,7 @@ use history::Row;
 use network::Ring;
 use runner::Session;
 ghost use mathlib.Core.Path.{_≡_};
+ghost use Rattle.refusal.specs.Number.{verdictNumber};
 ghost use Rattle.batch.specs.declared.sending.Scale.the-variants.{Tenths, Hundredths};
 ghost use Rattle.batch.specs.Sending.{recordFrom};
 ghost use Rattle.convert.specs.TurnedRing.{turnRing};
@@ -190,20 +191,20 @@ pub extern "C" fn vessel_ring_to_hundredths(ring: &mut Ring) -> u8
 #[no_mangle]
 pub extern "C" fn vessel_history_note(table: &mut [Row], record: BatchRecord) -> u8
     ensures { λ r. ⌜ (now (table .exit) ≡ History.note «record» (now (table .entry)) .table)
-        × (r ≡ History.outcomeNumber (History.note «record» (now (table .entry)) .outcome)) ⌝ }
+        × (r ≡ verdictNumber (History.note «record» (now (table .entry)) .verdict)) ⌝ }
 {
-    let outcome = history::note(table, record);
-    tables::number_in(outcome)
+    let verdict = history::note(table, record);
+    verdict.number()
 }
 
 #[no_mangle]
 pub extern "C" fn vessel_history_close(table: &mut [Row], batch: u32) -> u8
     ensures { λ r. ⌜ (now (table .exit) ≡ History.close batch (now (table .entry)) .table)
-        × (r ≡ History.outcomeNumber (History.close batch (now (table .entry)) .outcome)) ⌝ }
+        × (r ≡ verdictNumber (History.close batch (now (table .entry)) .verdict)) ⌝ }
 {
     let batch = tables::batch_no(batch);
-    let outcome = history::close(table, batch);
-    tables::number_in(outcome)
+    let verdict = history::close(table, batch);
+    verdict.number()
 }
 
 #[no_mangle]
@@ -219,10 +220,10 @@ pub extern "C" fn vessel_history_figures(table: &[Row], batch: u32) -> BatchFigu
 #[no_mangle]
 pub extern "C" fn vessel_history_to_hundredths(table: &mut [Row]) -> u8
     ensures { λ r. ⌜ (now (table .exit) ≡ turnTable (now (table .entry)) .table)
-        × (r ≡ History.outcomeNumber (turnTable (now (table .entry)) .outcome)) ⌝ }
+        × (r ≡ verdictNumber (turnTable (now (table .entry)) .verdict)) ⌝ }
 {
-    let outcome = convert::tables::turn_table(table);
-    tables::number_in(outcome)
+    let verdict = convert::tables::turn_table(table);
+    verdict.number()
 }
 
 #[no_mangle]

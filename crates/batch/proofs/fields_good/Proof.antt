@@ -3,8 +3,9 @@ use mathlib.Core.Path.{_≡_, sym, ap, _∙_}
 use mir.Syntax.{w16}
 use mir.Facts.{toZ-ofZ}
 use borrow.Author.Needs.{needs}
+use Rattle.refusal.proofs.Verdicts.{hasPassed}
 use Rattle.batch.specs.Good.{recordOf, verdictOf}
-use Rattle.batch.proofs.Good.{accepted, goodRecord-accepted}
+use Rattle.batch.proofs.Good.{goodRecord-passed}
 use Rattle.batch.proofs.fields_good.Statement.{statement}
 use Rattle.batch.proofs.fields_good.Tie as tie
 
@@ -17,10 +18,10 @@ judged c =
     rw (toZ-ofZ {w = w16} {z = start .args .temperature} (start .fits .temperature)) at (c .judge-fields .ensures)
 
 returns : tie.Need-returns
-returns c = sym (goodRecord-accepted _ ∙ ap accepted (sym (judged (c .before .before)) ∙ c .enum-told .given .1))
+returns c = sym (goodRecord-passed _ ∙ ap hasPassed (sym (judged (c .before .before)) ∙ c .enum-told .given .1))
 
 returns-2 : tie.Need-returns-2
-returns-2 c = sym (goodRecord-accepted _ ∙ ap accepted (sym (judged (c .before .before)) ∙ c .enum-told2 .given .1))
+returns-2 c = sym (goodRecord-passed _ ∙ ap hasPassed (sym (judged (c .before .before)) ∙ c .enum-told2 .given .1))
 
 pub fields-good-spec : {M : Type 1} → statement M
 fields-good-spec =

@@ -4,7 +4,7 @@ use mathlib.Core.Path.{ap}
 use mir.Syntax.{w16}
 use mir.Facts.{toZ-ofZ}
 use borrow.Author.Needs.{needs}
-use Rattle.batch.specs.Good.{verdictNumber}
+use Rattle.refusal.specs.Number.{verdictNumber}
 use Rattle.batch.proofs.judge.Statement.{statement}
 use Rattle.batch.proofs.judge.Tie as tie
 

@@ -2,10 +2,12 @@
 use mathlib.Core.Path.{_≡_, sym, ap, _∙_}
 use borrow.Author.Needs.{needs}
 use borrow.Author.Tests.{leb-true}
+use Rattle.refusal.specs.declared.Verdict.{Verdict}
+use Rattle.refusal.specs.declared.Verdict.the-variants.{Passed}
+use Rattle.refusal.specs.Number.{verdictNumber}
+use Rattle.refusal.proofs.Verdicts.{no-refusal}
 use Rattle.batch.specs.declared.BatchRecord.{BatchRecord}
-use Rattle.batch.specs.declared.Verdict.{Verdict}
-use Rattle.batch.specs.declared.Verdict.the-variants.{Good}
-use Rattle.batch.specs.Good.{verdictOf, verdictNumber, blankEnds, nameLengthGood}
+use Rattle.batch.specs.Good.{verdictOf, blankEnds, nameLengthGood}
 use Rattle.batch.proofs.Good as good
 use Rattle.batch.proofs.judge_sent.Statement.{statement}
 use Rattle.batch.proofs.judge_sent.Tie as tie
@@ -24,8 +26,8 @@ module _ (c : tie.After-enum-told) where
   abbrev sent : BatchRecord
   sent = c .before .before .before .args .«record»
 
-  is-good : verdictOf sent ≡ Good
-  is-good = sym (c .before .before .judge .ensures .0) ∙ good.no-refusal _ (c .before .match .keys2)
+  is-good : verdictOf sent ≡ Passed
+  is-good = sym (c .before .before .judge .ensures .0) ∙ no-refusal _ (c .before .match .keys2)
 
 blank-at-end-requires : tie.Need-blank-at-end-requires
 unfolding nameLengthGood

@@ -7,7 +7,7 @@ use denote.Ref.{now}
 use Rattle.lent.proofs.Noting.{note-meets}
 use Rattle.history.specs.Search.{beginAt, seenAt, toNote}
 use Rattle.history.proofs.Passing.{note-passed}
-use Rattle.history.proofs.Types.{batch-record, searched, outcome, row, decision}
+use Rattle.history.proofs.Types.{batch-record, searched, verdict, row, decision}
 use Rattle.history.proofs.begin_for.Symbol as begins
 use Rattle.history.proofs.begin_for.Met as begin-thm
 use Rattle.history.proofs.seen.Symbol as sees
@@ -22,7 +22,7 @@ use Rattle.history.proofs.note.Code as code
 pub note-spec : {M : Type 1} → statement M
 unfolding code.routine
 note-spec 𝓤 H 𝓜 𝓖 𝓡 =
-    note-meets (batch-record ∷ []) row searched outcome decision (λ x. beginAt (x .0 .batch)) seenAt (λ s x. toNote s (x .0)) 𝓤 H 𝓜 𝓖 𝓡
+    note-meets (batch-record ∷ []) row searched verdict decision (λ x. beginAt (x .0 .batch)) seenAt (λ s x. toNote s (x .0)) 𝓤 H 𝓜 𝓖 𝓡
     (λ κs a. note.clauses 𝓤 H (𝓖 .A) (𝓜 .mem) (𝓡 .run) κs a .ensures tt)
     (λ κs a ws is. factI 𝓤 _ (emp 𝓤) (note-passed (now (a .0)) (is .0 .1 .0) (a .1 .0)))
     code.env name begins.name sees.name cores.name begins.routine sees.routine cores.routine (code.unfolded 𝓤 H 𝓜 𝓡)

@@ -5,9 +5,9 @@ use mathlib.Core.Path.{_≡_, refl}
 use mathlib.Core.Bool.{Bool, true, false}
 use mathlib.Core.List.{[]}
 use Rattle.refusal.specs.declared.Refusal.{Refusal}
+use Rattle.refusal.specs.declared.Verdict.{Verdict}
+use Rattle.refusal.specs.declared.Verdict.the-variants.{Passed, Refused}
 use Rattle.numbers.specs.declared.ChannelNo.{ChannelNo}
-use Rattle.batch.specs.declared.Verdict.{Verdict}
-use Rattle.batch.specs.declared.Verdict.the-variants.{Good, Refused}
 use Rattle.network.specs.Network.{Network}
 use Rattle.network.specs.Calls.{Event, Outcome, refused, accepted, unless, ifGood}
 use Rattle.network.specs.Runs.{Call, silent, deedOf, sentOn, handedOn, after, isAccepted}
@@ -29,8 +29,8 @@ module _ {P : Event → Network → Type 0} where
   after-some f not-done = not-done
   after-some f (was-done h) = was-done (f _ _ h)
 
-  pub if-good : (v : Verdict) (o : Outcome Network) → (v ≡ Good → After P o) → After P (ifGood v o)
-  if-good Good o h = h refl
+  pub if-good : (v : Verdict) (o : Outcome Network) → (v ≡ Passed → After P o) → After P (ifGood v o)
+  if-good Passed o h = h refl
   if-good (Refused r) o h = not-done
 
   -- what holds of the ring before, and of the next wherever there is one, holds of the ring that the call leaves

@@ -1,12 +1,12 @@
 -- `tasks::send` meets its contract: each return carries what the tests showed to the law of its case. Assumes nothing.
 use mathlib.Core.Path.{_≡_, sym, ap, _∙_}
 use borrow.Author.Needs.{needs}
+use Rattle.refusal.specs.declared.Verdict.the-variants.{Passed}
+use Rattle.refusal.proofs.Verdicts.{no-refusal}
 use Rattle.batch.specs.declared.BatchRecord.{BatchRecord}
-use Rattle.batch.specs.declared.Verdict.the-variants.{Good}
 use Rattle.batch.specs.declared.sending.Sent.{Sent}
 use Rattle.batch.specs.Good.{sendVerdict}
 use Rattle.batch.specs.Sending.{recordFrom}
-use Rattle.batch.proofs.Good.{no-refusal}
 use Rattle.batch.proofs.Temperatures.{sent-verdict, sent-record}
 use Rattle.network.specs.declared.Ring.{Ring}
 use Rattle.network.specs.Runs
@@ -59,7 +59,7 @@ module _ (c : tie.After-struct-known) where
   abbrev sent : BatchRecord
   sent = made judged
 
-  good : sendVerdict sent ≡ Good
+  good : sendVerdict sent ≡ Passed
   good = sym (verdict-is judged) ∙ no-refusal _ (c .before .before .before .match2 .keys2)
 
   goes-out : judged .make .result .«record» ≡ sent

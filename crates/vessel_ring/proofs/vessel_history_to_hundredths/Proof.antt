@@ -1,17 +1,18 @@
--- `vessel_history_to_hundredths` meets its contract: it hands the table on (Handing.antt of `lent`) to `convert::tables::turn_table`.
--- Assumes nothing.
+-- `vessel_history_to_hundredths` meets its contract: it hands the table on to `convert::tables::turn_table` (HandingSlices.antt of `lent`) and tells the answer.
 use mathlib.Core.Path.{refl}
-use Rattle.lent.proofs.Params.{u8-kind}
+use mathlib.Core.List.{[]}
 use base.Logic.{emp}
 use contract.Monad.{factI}
-use Rattle.lent.proofs.Handing.{hand-on-meets}
-use Rattle.history.specs.History as History
-use Rattle.history.proofs.Types.{outcome, row}
+use Rattle.refusal.specs.Number.{verdictNumber}
 use Rattle.convert.specs.TurnedTable.{turnTable}
-use Rattle.convert.proofs.tables.turn_table.Symbol as calls
-use Rattle.convert.proofs.tables.turn_table.Met as call-thm
-use Rattle.c_structs.proofs.tables.number_in.Symbol as outs
-use Rattle.c_structs.proofs.tables.number_in.Met as out-thm
+use Rattle.lent.proofs.Around.{called, passed, told}
+use Rattle.lent.proofs.HandingSlices.{changes}
+use Rattle.lent.proofs.Params.{u8-kind}
+use Rattle.history.proofs.Types.{verdict, row}
+use Rattle.convert.proofs.tables.turn_table.Symbol as g
+use Rattle.convert.proofs.tables.turn_table.Met as g-met
+use Rattle.refusal.proofs.Verdict.number.Symbol as k
+use Rattle.refusal.proofs.Verdict.number.Met as k-met
 use Rattle.vessel_ring.proofs.vessel_history_to_hundredths as exported
 use Rattle.vessel_ring.proofs.vessel_history_to_hundredths.Key.{name}
 use Rattle.vessel_ring.proofs.vessel_history_to_hundredths.Statement.{statement}
@@ -20,8 +21,7 @@ use Rattle.vessel_ring.proofs.vessel_history_to_hundredths.Code as code
 pub vessel-history-to-hundredths-spec : {M : Type 1} → statement M
 unfolding code.routine
 vessel-history-to-hundredths-spec 𝓤 H 𝓜 𝓖 𝓡 =
-    hand-on-meets row outcome u8-kind History.outcomeNumber (λ t. turnTable t .outcome) (λ t. turnTable t .table) 𝓤 H 𝓜 𝓖 𝓡
+    changes [] row [] verdict u8-kind (λ a. a) verdictNumber (λ t x. turnTable t .verdict) (λ t x. turnTable t .table) 𝓤 H 𝓜 𝓖 𝓡
     (λ κs a. exported.clauses 𝓤 H (𝓖 .A) (𝓜 .mem) (𝓡 .run) κs a .ensures tt) (λ κs a ws is. factI 𝓤 _ (emp 𝓤) (refl, refl))
-    code.env name calls.name outs.name calls.routine outs.routine (code.unfolded 𝓤 H 𝓜 𝓡)
-    code.calls-convert·tables·turn-table code.calls-c-structs·tables·number-in
-    (call-thm.met 𝓤 H 𝓜 𝓖 𝓡) (out-thm.met 𝓤 H 𝓜 𝓖 𝓡)
+    code.env name passed (called g.name g.routine code.calls-convert·tables·turn-table (g-met.met 𝓤 H 𝓜 𝓖 𝓡))
+    (told (called k.name k.routine code.calls-refusal·Verdict·number (k-met.met 𝓤 H 𝓜 𝓖 𝓡))) (code.unfolded 𝓤 H 𝓜 𝓡)

@@ -1,8 +1,8 @@
 -- `sending::judged` meets its contract: the record goes with its verdict where that is good. Assumes nothing.
 use mathlib.Core.Path.{sym, ap, _∙_}
 use borrow.Author.Needs.{needs}
+use Rattle.refusal.proofs.Verdicts.{no-refusal}
 use Rattle.batch.specs.Sending.{sentAs}
-use Rattle.batch.proofs.Good.{no-refusal}
 use Rattle.batch.proofs.sending.judged.Statement.{statement}
 use Rattle.batch.proofs.sending.judged.Tie as tie
 

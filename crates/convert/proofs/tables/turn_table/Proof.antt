@@ -6,7 +6,7 @@ use contract.Monad.{factI}
 use denote.Ref.{now}
 use Rattle.lent.proofs.Params.{Kind, struct-kind}
 use Rattle.lent.proofs.Sweeping.{sweep-meets}
-use Rattle.history.proofs.Types.{outcome, row}
+use Rattle.history.proofs.Types.{verdict, row}
 use Rattle.convert.specs.TablePass.{passBegun, passSeen, decided, rowAfter}
 use Rattle.convert.proofs.TablePassed.{all-turned}
 use Rattle.convert.proofs.tables.Pass as P
@@ -30,7 +30,7 @@ pass = struct-kind P.the-type P′.the-laws P′.the-plain P′.the-copy
 pub turn-table-spec : {M : Type 1} → statement M
 unfolding code.routine
 turn-table-spec 𝓤 H 𝓜 𝓖 𝓡 =
-    sweep-meets [] row pass outcome (λ x. passBegun) passSeen (λ p x. decided p) rowAfter 𝓤 H 𝓜 𝓖 𝓡
+    sweep-meets [] row pass verdict (λ x. passBegun) passSeen (λ p x. decided p) rowAfter 𝓤 H 𝓜 𝓖 𝓡
     (λ κs a. turn-table.clauses 𝓤 H (𝓖 .A) (𝓜 .mem) (𝓡 .run) κs a .ensures tt)
     (λ κs a ws is. factI 𝓤 _ (emp 𝓤) (all-turned (now (a .0))))
     code.env name begins.name sees.name cores.name nexts.name begins.routine sees.routine cores.routine nexts.routine (code.unfolded 𝓤 H 𝓜 𝓡)

@@ -7,9 +7,9 @@ use types.Run.{OneOf, miss}
 use denote.Enum.Declared.{tagOf}
 use borrow.Author.Needs.{needs}
 use borrow.Author.Tests.{not-true, not-false}
+use Rattle.refusal.specs.declared.Verdict.{Verdict}
 use Rattle.network.specs.declared.Ring.{Ring}
 use Rattle.network.specs.Layout.{ringIn, soundRing}
-use Rattle.updates.specs.declared.opening.Opening.{Opening}
 use Rattle.updates.specs.declared.opening.Subject.{Subject}
 use Rattle.updates.specs.declared.opening.Subject.the-variants.{Plan, Channel, Node, Tasks}
 use Rattle.updates.specs.Openings.{soundOpening, openingOf}
@@ -29,7 +29,7 @@ is-plan (Channel channel) k = absurd (miss (0 ∷ []) 1 tt k)
 is-plan (Node node) k = absurd (miss (0 ∷ []) 2 tt k)
 is-plan (Tasks node) k = absurd (miss (0 ∷ []) 3 tt k)
 
-judged : (c : tie.Else1) {r : Opening} {s : Subject} → c .before .before .args .subject ≡ s → r ≡ soundOpening (given (c .before)) s →
+judged : (c : tie.Else1) {r : Verdict} {s : Subject} → c .before .before .args .subject ≡ s → r ≡ soundOpening (given (c .before)) s →
     r ≡ openingOf (given (c .before)) (c .before .before .args .subject)
 judged c told e =
     let sound : soundRing (given (c .before)) ≡ true = sym (c .before .is-sound .ensures) ∙ not-false _ (c .if1 .left) in
