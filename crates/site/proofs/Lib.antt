@@ -1,7 +1,6 @@
 pub mod Values
 pub mod Question
 pub mod Types
-pub mod Walk
 pub mod Parts
 pub mod Lends
 pub mod Looks

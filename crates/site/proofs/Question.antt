@@ -30,11 +30,12 @@ use denote.Triple.Spec.{Meets}
 use denote.Triple.Clauses.{closing}
 use Rattle.lent.proofs.Called.{CallOf, calling}
 use Rattle.lent.proofs.Contract.{Lent, Clause, Says, clauses, exits, WalkAt, meets, callee}
+use Rattle.lent.proofs.Refs.{seen}
 use Rattle.lent.proofs.Params.{Kind, Values, Placed, nowhere, Blocks, Found, good-across, slots, across, words, locals, copies, past, before, found, found-past, alloc-all, pass-all, in-local, reads-from, read-all, free-all}
 use Rattle.network.specs.declared.Ring.{Ring}
 use Rattle.network.proofs.Ring as R
 use Rattle.network.proofs.Ring.Laws as R′
-use Rattle.site.proofs.Values.{ring, ring-vals, ring-seen, shared-ring}
+use Rattle.site.proofs.Values.{ring, ring-vals, shared-ring}
 
 -- ---- the function. Its locals are the answer, the reference, the parameters and the ring that is passed
 abbrev refTy : Ty
@@ -101,7 +102,7 @@ module _ (ps : List Kind) (X : Kind) (F : Ring → Values ps → X .row .Denot) 
         alloc1 ! (λ l₀. alloc1 ! (λ l₁. alloc-all ps (λ bs. alloc1 ! (λ lₜ. alloc0 ! $
         params1 ! $ pass1 ! (init ! 3 refl (tt, tt)) $ move ! (2 ∷ []) $ pass-all 1 (κ, tt) ps bs a (are .1) (pass0 ! $ move ! (8 ∷ 9 ∷ []) $
         looks ! tt R.the-row (Is R.the-row) (shows 𝓤 H A R.the-row) ring-vals (ring .tells) (ring .copy-of 𝓤 H A W) h b o (λ q′ vs.
-        ring-seen W q′ h vs b o (λ is.
+        seen W ring q′ h vs b o (λ is.
         -- [a share of the ring's cell; what it owns; the open borrow; the borrow; the parameters 4; room for the ring passed 5; _1 7; room
         -- for _0 9, each with what frees it; res; true]
         assigns ! (of-opd ! (load ! (in-local refl (hop ! (look ! 7 refl) (stop !))) (look-raw ! 0 refl)))

@@ -1,5 +1,5 @@
--- The kinds (Params.antt of `lent`) of what the calls take and answer, and the steps as pairs (Walk.antt) of a ring and what is answered.
--- Assumes nothing.
+-- The kinds (Params.antt of `lent`) of what the calls take and answer, and the steps as pairs (Replacing.antt of `lent`) of a ring and what is
+-- answered. Assumes nothing.
 use mathlib.Core.Path.{refl}
 use denote.Struct.Laws as LL
 use Rattle.batch.proofs.sending.Fields as B
@@ -27,8 +27,9 @@ use Rattle.network.proofs.Step.Laws as S′
 use Rattle.questions.proofs.Tasks as T
 use Rattle.questions.proofs.Tasks.Laws as T′
 use Rattle.lent.proofs.Params.{Kind, struct-kind, enum-kind}
+use Rattle.lent.proofs.Replacing.{Paired}
 use Rattle.site.proofs.Lends.{Headed}
-use Rattle.site.proofs.Walk.{Paired}
+use Rattle.site.proofs.Values.{ring}
 
 abbrev pub node-no : Kind
 node-no = struct-kind N.the-type N′.the-laws N′.the-plain N′.the-copy
@@ -54,11 +55,11 @@ tasks = enum-kind T.the-type T′.the-laws tt T′.the-plain T′.the-copy
 abbrev pub reply : Kind
 reply = struct-kind P.the-type P′.the-laws P′.the-plain P′.the-copy
 
-abbrev pub step : Paired reply
+abbrev pub step : Paired ring reply
 step = record {
   kind = struct-kind S.the-type S′.the-laws S′.the-plain S′.the-copy;
   name = S.the-type .name;
-  ring-of = λ s. s .ring;
+  stored-of = λ s. s .ring;
   out-of = λ s. s .reply;
   shaped = refl;
   spelled = λ s. refl;
@@ -68,11 +69,11 @@ step = record {
 abbrev pub dispatched : Kind
 dispatched = struct-kind D.the-type D′.the-laws D′.the-plain D′.the-copy
 
-abbrev pub dispatch-step : Paired dispatched
+abbrev pub dispatch-step : Paired ring dispatched
 dispatch-step = record {
   kind = struct-kind DS.the-type DS′.the-laws DS′.the-plain DS′.the-copy;
   name = DS.the-type .name;
-  ring-of = λ s. s .ring;
+  stored-of = λ s. s .ring;
   out-of = λ s. s .dispatched;
   shaped = refl;
   spelled = λ s. refl;

@@ -1,4 +1,4 @@
--- An exported call on a lent ring: `in-place` of `site` over a call of `by_number`. The ring afterwards is the one that the definition
+-- An exported call on a lent ring: `in-place` of `lent` over a call of `by_number`. The ring afterwards is the one that the definition
 -- gives, and the answer is told in numbers. Assumes nothing.
 use mathlib.Core.Path.{_≡_, refl}
 use mathlib.Core.List.{List}
@@ -17,13 +17,13 @@ use denote.Triple.Clauses.{closing}
 use Rattle.network.specs.declared.Ring.{Ring}
 use Rattle.lent.proofs.Contract.{Lent, Clause, clauses}
 use Rattle.lent.proofs.Params.{Kind, Values}
-use Rattle.site.proofs.Values.{changed-ring}
-use Rattle.site.proofs.Walk.{Paired, CallBy, returned, inPlace, in-place}
+use Rattle.lent.proofs.Replacing.{Paired, CallBy, returned, inPlace, in-place}
+use Rattle.site.proofs.Values.{ring, changed-ring}
 
 -- any contract that says that the ring and the answer are those of the pair that comes back
-module _ (X : Kind) (T : Paired X) (ps : List Kind) (F : Ring → Values ps → T .kind .row .Denot) where
+module _ (X : Kind) (T : Paired ring X) (ps : List Kind) (F : Ring → Values ps → T .kind .row .Denot) where
   abbrev Changed : {M : Type 1} (𝓤 : URA M) → Clause changed-ring ps X 𝓤
-  Changed 𝓤 κs a r z = fact 𝓤 ((now (z .0) ≡ T .ring-of (returned X T ps F κs a)) × (r ≡ T .out-of (returned X T ps F κs a)))
+  Changed 𝓤 κs a r z = fact 𝓤 ((now (z .0) ≡ T .stored-of (returned X T ps F κs a)) × (r ≡ T .out-of (returned X T ps F κs a)))
 
   pub changes :
       {M : Type 1} (𝓤 : URA M) (H : Heap 𝓤) (𝓜 : Model 𝓤 H) (𝓖 : GhostRules 𝓤 H) (𝓡 : Running 𝓤 H 𝓜) (env : Env) (key g : Name) (callee : Routine) →

@@ -25,9 +25,10 @@ use Rattle.network.specs.Answers.{callOf}
 use Rattle.lent.proofs.Called.{CallOf}
 use Rattle.lent.proofs.Around.{Maker, Teller, called, told, one, told-by}
 use Rattle.lent.proofs.Contract.{Lent, Clause, clauses}
-use Rattle.lent.proofs.HandingOn.{given-ref, handing, changes}
+use Rattle.lent.proofs.HandingOn.{handing, changes}
 use Rattle.lent.proofs.MakingTwo.{two-made-by, each-made-by, made-two, made-each}
 use Rattle.lent.proofs.Params.{Kind, Values, across}
+use Rattle.lent.proofs.Refs.{given-ref}
 use Rattle.site.specs.InPlace.{ringAfter, replyTo}
 use Rattle.site.proofs.Types.{fields, reply, ring-call}
 use Rattle.site.proofs.Values.{ring}

@@ -3,8 +3,9 @@
 use mathlib.Core.Path.{refl}
 use denote.Struct.Laws as LL
 use Rattle.lent.proofs.Params.{Kind, u8-kind, struct-kind}
+use Rattle.lent.proofs.Replacing.{Paired}
 use Rattle.site.proofs.Lends.{Headed}
-use Rattle.site.proofs.Walk.{Paired}
+use Rattle.site.proofs.Values.{ring}
 use Rattle.by_number.proofs.Record as R
 use Rattle.by_number.proofs.Record.Laws as R′
 use Rattle.by_number.proofs.Delivery as D
@@ -37,11 +38,11 @@ waiting = struct-kind W.the-type W′.the-laws W′.the-plain W′.the-copy
 abbrev pub batch-figures : Kind
 batch-figures = struct-kind F.the-type F′.the-laws F′.the-plain F′.the-copy
 
-abbrev pub told : Paired u8-kind
+abbrev pub told : Paired ring u8-kind
 told = record {
   kind = struct-kind T.the-type T′.the-laws T′.the-plain T′.the-copy;
   name = T.the-type .name;
-  ring-of = λ s. s .ring;
+  stored-of = λ s. s .ring;
   out-of = λ s. s .refusal;
   shaped = refl;
   spelled = λ s. refl;

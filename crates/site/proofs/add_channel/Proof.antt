@@ -1,4 +1,4 @@
--- `site::add_channel` meets its contract: it is a call in place (Walk.antt) over `by_value::add_channel`. Assumes nothing.
+-- `site::add_channel` meets its contract: it is a call in place (Replacing.antt of `lent`) over `by_value::add_channel`. Assumes nothing.
 use mathlib.Core.Path.{refl}
 use mathlib.Core.List.{[], _∷_}
 use base.Logic.{emp}
@@ -7,8 +7,8 @@ use Rattle.network.specs.Layout.{stepRing}
 use Rattle.network.specs.Runs
 use Rattle.by_value.proofs.add_channel.Symbol as by-value
 use Rattle.by_value.proofs.add_channel.Met.{met}
+use Rattle.lent.proofs.Replacing.{in-place}
 use Rattle.site.proofs.Types.{node-no, reply, step}
-use Rattle.site.proofs.Walk.{in-place}
 use Rattle.site.proofs.add_channel as add-channel
 use Rattle.site.proofs.add_channel.Key.{name}
 use Rattle.site.proofs.add_channel.Statement.{statement}

@@ -1,4 +1,4 @@
--- `site::add_node` meets its contract: it is a call in place (Walk.antt) over `by_value::add_node`. Assumes nothing.
+-- `site::add_node` meets its contract: it is a call in place (Replacing.antt of `lent`) over `by_value::add_node`. Assumes nothing.
 use mathlib.Core.Path.{refl}
 use mathlib.Core.List.{[], _∷_}
 use base.Logic.{emp}
@@ -8,8 +8,8 @@ use Rattle.network.specs.Runs
 use Rattle.by_value.proofs.add_node.Symbol as by-value
 use Rattle.by_value.proofs.add_node.Met.{met}
 use Rattle.lent.proofs.Params.{u8-kind}
+use Rattle.lent.proofs.Replacing.{in-place}
 use Rattle.site.proofs.Types.{reply, step}
-use Rattle.site.proofs.Walk.{in-place}
 use Rattle.site.proofs.add_node as add-node
 use Rattle.site.proofs.add_node.Key.{name}
 use Rattle.site.proofs.add_node.Statement.{statement}

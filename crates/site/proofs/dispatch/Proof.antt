@@ -1,4 +1,4 @@
--- `site::dispatch` meets its contract: it is a call in place (Walk.antt) over `by_value::dispatch`. Assumes nothing.
+-- `site::dispatch` meets its contract: it is a call in place (Replacing.antt of `lent`) over `by_value::dispatch`. Assumes nothing.
 use mathlib.Core.Path.{refl}
 use mathlib.Core.List.{[], _∷_}
 use mir.Syntax.{w16}
@@ -8,8 +8,8 @@ use Rattle.network.specs.Dispatcher.{dispatchRing, dispatchStepOf}
 use Rattle.lent.proofs.Params.{uint-kind}
 use Rattle.by_value.proofs.dispatch.Symbol as by-value
 use Rattle.by_value.proofs.dispatch.Met.{met}
+use Rattle.lent.proofs.Replacing.{in-place}
 use Rattle.site.proofs.Types.{dispatched, dispatch-step}
-use Rattle.site.proofs.Walk.{in-place}
 use Rattle.site.proofs.dispatch as in-site
 use Rattle.site.proofs.dispatch.Key.{name}
 use Rattle.site.proofs.dispatch.Statement.{statement}

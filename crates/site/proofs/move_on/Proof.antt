@@ -1,4 +1,4 @@
--- `site::move_on` meets its contract: it is a call in place (Walk.antt) over `by_value::move_on`. Assumes nothing.
+-- `site::move_on` meets its contract: it is a call in place (Replacing.antt of `lent`) over `by_value::move_on`. Assumes nothing.
 use mathlib.Core.Path.{refl}
 use mathlib.Core.List.{[], _∷_}
 use base.Logic.{emp}
@@ -7,8 +7,8 @@ use Rattle.network.specs.Layout.{stepRing}
 use Rattle.network.specs.Runs
 use Rattle.by_value.proofs.move_on.Symbol as by-value
 use Rattle.by_value.proofs.move_on.Met.{met}
+use Rattle.lent.proofs.Replacing.{in-place}
 use Rattle.site.proofs.Types.{node-no, reply, step}
-use Rattle.site.proofs.Walk.{in-place}
 use Rattle.site.proofs.move_on as move-on
 use Rattle.site.proofs.move_on.Key.{name}
 use Rattle.site.proofs.move_on.Statement.{statement}

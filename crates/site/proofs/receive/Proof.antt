@@ -1,4 +1,4 @@
--- `site::receive` meets its contract: it is a call in place (Walk.antt) over `by_value::receive`. Assumes nothing.
+-- `site::receive` meets its contract: it is a call in place (Replacing.antt of `lent`) over `by_value::receive`. Assumes nothing.
 use mathlib.Core.Path.{refl}
 use mathlib.Core.List.{[], _∷_}
 use base.Logic.{emp}
@@ -7,8 +7,8 @@ use Rattle.network.specs.Layout.{stepRing}
 use Rattle.network.specs.Runs
 use Rattle.by_value.proofs.receive.Symbol as by-value
 use Rattle.by_value.proofs.receive.Met.{met}
+use Rattle.lent.proofs.Replacing.{in-place}
 use Rattle.site.proofs.Types.{channel-no, reply, step}
-use Rattle.site.proofs.Walk.{in-place}
 use Rattle.site.proofs.receive as receive
 use Rattle.site.proofs.receive.Key.{name}
 use Rattle.site.proofs.receive.Statement.{statement}

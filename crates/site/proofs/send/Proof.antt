@@ -1,4 +1,4 @@
--- `site::send` meets its contract: it is a call in place (Walk.antt) over `by_value::send`. Assumes nothing.
+-- `site::send` meets its contract: it is a call in place (Replacing.antt of `lent`) over `by_value::send`. Assumes nothing.
 use mathlib.Core.Path.{refl}
 use mathlib.Core.List.{[], _∷_}
 use base.Logic.{emp}
@@ -8,8 +8,8 @@ use Rattle.network.specs.Layout.{stepRing}
 use Rattle.network.specs.Runs
 use Rattle.by_value.proofs.send.Symbol as by-value
 use Rattle.by_value.proofs.send.Met.{met}
+use Rattle.lent.proofs.Replacing.{in-place}
 use Rattle.site.proofs.Types.{fields, scale, channel-no, reply, step}
-use Rattle.site.proofs.Walk.{in-place}
 use Rattle.site.proofs.send as send
 use Rattle.site.proofs.send.Key.{name}
 use Rattle.site.proofs.send.Statement.{statement}

@@ -1,4 +1,4 @@
--- `site::start` meets its contract: it is a call in place (Walk.antt) over `by_value::start`. Assumes nothing.
+-- `site::start` meets its contract: it is a call in place (Replacing.antt of `lent`) over `by_value::start`. Assumes nothing.
 use mathlib.Core.Path.{refl}
 use mathlib.Core.List.{[]}
 use base.Logic.{emp}
@@ -7,8 +7,8 @@ use Rattle.network.specs.Layout.{stepRing}
 use Rattle.network.specs.Runs
 use Rattle.by_value.proofs.start.Symbol as by-value
 use Rattle.by_value.proofs.start.Met.{met}
+use Rattle.lent.proofs.Replacing.{in-place}
 use Rattle.site.proofs.Types.{reply, step}
-use Rattle.site.proofs.Walk.{in-place}
 use Rattle.site.proofs.start as start
 use Rattle.site.proofs.start.Key.{name}
 use Rattle.site.proofs.start.Statement.{statement}

@@ -1,4 +1,4 @@
--- `site::withdraw` meets its contract: it is a call in place (Walk.antt) over `by_value::withdraw`. Assumes nothing.
+-- `site::withdraw` meets its contract: it is a call in place (Replacing.antt of `lent`) over `by_value::withdraw`. Assumes nothing.
 use mathlib.Core.Path.{refl}
 use mathlib.Core.List.{[], _∷_}
 use base.Logic.{emp}
@@ -7,8 +7,8 @@ use Rattle.network.specs.Layout.{stepRing}
 use Rattle.network.specs.Runs
 use Rattle.by_value.proofs.withdraw.Symbol as by-value
 use Rattle.by_value.proofs.withdraw.Met.{met}
+use Rattle.lent.proofs.Replacing.{in-place}
 use Rattle.site.proofs.Types.{channel-no, reply, step}
-use Rattle.site.proofs.Walk.{in-place}
 use Rattle.site.proofs.withdraw as withdraw
 use Rattle.site.proofs.withdraw.Key.{name}
 use Rattle.site.proofs.withdraw.Statement.{statement}

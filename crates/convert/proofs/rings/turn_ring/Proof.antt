@@ -1,11 +1,11 @@
--- `rings::turn_ring` meets its contract: it is a call in place (Walk.antt of `site`) over `turned`. Assumes nothing.
+-- `rings::turn_ring` meets its contract: it is a call in place (Replacing.antt of `lent`) over `turned`. Assumes nothing.
 use mathlib.Core.Path.{refl}
 use mathlib.Core.List.{[]}
 use base.Logic.{emp}
 use contract.Monad.{factI}
 use Rattle.network.specs.Answers.{stepOf}
+use Rattle.lent.proofs.Replacing.{in-place}
 use Rattle.site.proofs.Types.{reply, step}
-use Rattle.site.proofs.Walk.{in-place}
 use Rattle.convert.specs.TurnedRing.{turnRing}
 use Rattle.convert.proofs.rings.turned.Symbol as by-value
 use Rattle.convert.proofs.rings.turned.Met.{met}
