@@ -23,8 +23,9 @@ use Rattle.network.specs.Layout.{ringAfter, replyTo, answerTo}
 use Rattle.lent.proofs.Around.{Callee, Teller, made-by, one, called, made}
 use Rattle.lent.proofs.Called.{CallOf}
 use Rattle.lent.proofs.Contract.{Lent, Clause, Says, clauses}
-use Rattle.lent.proofs.HandingOn.{given-ref, shared-ref, handing, changes, asks}
+use Rattle.lent.proofs.HandingOn.{handing, changes, asks}
 use Rattle.lent.proofs.Params.{Kind, Values, across}
+use Rattle.lent.proofs.Refs.{given-ref, shared-ref}
 use Rattle.site.proofs.Types.{command, question, answer, reply}
 use Rattle.site.proofs.Values.{ring}
 use Rattle.site.proofs.perform.Symbol as perform

@@ -36,6 +36,7 @@ use denote.Triple.Clauses.{AtExit, closing}
 use Rattle.lent.proofs.Apart.{refTo}
 use Rattle.lent.proofs.CalledApart.{Apart, CallApart, Ends, alone, calling-apart}
 use Rattle.lent.proofs.Contract.{Lent, Clause, Says, clauses, exits, WalkAt, meets, callee}
+use Rattle.lent.proofs.Refs.{seen}
 use Rattle.lent.proofs.Params.{Kind, Values, Placed, nowhere, Blocks, Found, Fine, good-across, slots, stays, across, across-lift, words, locals, copies, past, before, found, found-past, alloc-all, pass-all, in-local, reads-from, read-all, free-all}
 use Rattle.network.specs.declared.Head.{Head}
 use Rattle.network.specs.declared.Ring.{Ring}
@@ -43,7 +44,7 @@ use Rattle.network.specs.Layout.{ringIn}
 use Rattle.network.proofs.Ring as R
 use Rattle.network.proofs.Ring.Laws as R′
 use Rattle.network.proofs.Head.Laws as D′
-use Rattle.site.proofs.Values.{ring, head, ring-vals, ring-seen, changed-ring}
+use Rattle.site.proofs.Values.{ring, head, ring-vals, changed-ring}
 use Rattle.site.proofs.Parts.{cells, records, toSlots, toLines, toOffers, toCarried, apart, together, take-apart, put-together, lend-all, take-back-all}
 
 -- a struct of a head and a value of the kind X
@@ -187,7 +188,7 @@ module _ (X : Kind) (T : Headed X) (ps : List Kind)
         alloc1 ! (λ l₀. alloc1 ! (λ l₁. alloc-all ps (λ bs. alloc1 ! (λ lₛ. alloc1 ! (λ lₕ.
         alloc1 ! (λ m₁. alloc1 ! (λ m₂. alloc1 ! (λ m₃. alloc1 ! (λ m₄. alloc0 ! $
         params1 ! $ pass1 ! (init ! 13 refl (tt, tt)) $ move ! (12 ∷ []) $ pass-all 1 (κ, tt) ps bs a (are .1) (pass0 ! $
-        move ! (17 ∷ 18 ∷ 19 ∷ []) $ opens ! tt R.the-row {h = h} b o (λ vs. ring-seen W fullShare h vs b o (λ is.
+        move ! (17 ∷ 18 ∷ 19 ∷ []) $ opens ! tt R.the-row {h = h} b o (λ vs. seen W ring fullShare h vs b o (λ is.
         move ! (1 ∷ []) $ drop ! $ take-apart b o W fullShare h (
         -- [the arrays; the head 4; the way back; the open borrow; obs; auth; the parameters 9; room for the arrays lent 10, 12, 14, 16, the head
         -- passed 18, what is returned 20; _1 22; room for _0 24, each with what frees it; true]

@@ -1,6 +1,5 @@
 pub mod Values
 pub mod Types
-pub mod Walk
 pub mod Parts
 pub mod Lends
 pub mod Looks

@@ -33,13 +33,14 @@ use denote.Triple.Clauses.{AtExit, closing}
 use Rattle.lent.proofs.Apart.{refTo}
 use Rattle.lent.proofs.CalledApart.{Apart, CallApart, calling-apart}
 use Rattle.lent.proofs.Contract.{Lent, Clause, Says, clauses, exits, WalkAt, meets, callee}
+use Rattle.lent.proofs.Refs.{seen}
 use Rattle.lent.proofs.Params.{Kind, Values, Placed, nowhere, Blocks, Found, Fine, good-across, slots, stays, across, across-lift, words, locals, copies, past, before, found, found-past, alloc-all, pass-all, in-local, reads-from, read-all, free-all}
 use Rattle.network.specs.declared.Ring.{Ring}
 use Rattle.network.specs.Layout.{ringIn}
 use Rattle.network.proofs.Ring as R
 use Rattle.network.proofs.Ring.Laws as R′
 use Rattle.network.proofs.Head.Laws as D′
-use Rattle.site.proofs.Values.{ring, head, ring-vals, ring-seen, shared-ring}
+use Rattle.site.proofs.Values.{ring, head, ring-vals, shared-ring}
 use Rattle.site.proofs.Parts.{cells, records, toSlots, toLines, toOffers, toCarried, apart, take-apart, put-together, share-all, share-back-all}
 
 -- ---- the function. Its locals are the answer, the reference, the parameters, the head passed and the arrays lent
@@ -150,7 +151,7 @@ module _ (X : Kind) (ps : List Kind) (F : Ring → Values ps → X .row .Denot) 
         alloc1 ! (λ l₀. alloc1 ! (λ l₁. alloc-all ps (λ bs. alloc1 ! (λ lₕ. alloc1 ! (λ m₁. alloc1 ! (λ m₂. alloc1 ! (λ m₃. alloc1 ! (λ m₄. alloc0 ! $
         params1 ! $ pass1 ! (init ! 11 refl (tt, tt)) $ move ! (10 ∷ []) $ pass-all 1 (κ, tt) ps bs a (are .1) (pass0 ! $ move ! (16 ∷ 17 ∷ []) $
         looks ! tt R.the-row (Is R.the-row) (shows 𝓤 H A R.the-row) ring-vals (ring .tells) (ring .copy-of 𝓤 H A W) h b o (λ q′ vs.
-        ring-seen W q′ h vs b o (λ is. take-apart b o W q′ h (
+        seen W ring q′ h vs b o (λ is. take-apart b o W q′ h (
         -- [shares of the arrays; of the head 4; the way back; what the ring owns; the open borrow; the borrow; the parameters 9; room for the
         -- arrays lent 10, 12, 14, 16 and the head passed 18; _1 20; room for _0 22, each with what frees it; res 24; true]
         assigns ! (of-opd ! (load ! (in-local refl (hop ! (look ! 20 refl) (fld ! refl (stop !)))) (look-raw ! 4 refl)))
