@@ -20,7 +20,7 @@ pub fn perform(ring: Ring, command: Command) -> Step
     let mut lines = ring.lines;
     let mut offers = ring.offers;
     let mut carried = ring.carried;
-    let after = crate::perform(
+    let made = crate::perform(
         head,
         &mut slots,
         &mut lines,
@@ -28,8 +28,8 @@ pub fn perform(ring: Ring, command: Command) -> Step
         &mut carried,
         command,
     );
-    let head = after.head;
-    let reply = after.reply;
+    let head = made.head;
+    let reply = made.reply;
     let ring = Ring {
         head,
         slots,
@@ -60,7 +60,7 @@ pub fn dispatch(ring: Ring, rounds: u16) -> DispatchStep
     let mut lines = ring.lines;
     let mut offers = ring.offers;
     let mut carried = ring.carried;
-    let after = dispatch::dispatch(
+    let ran = dispatch::dispatch(
         head,
         &mut slots,
         &mut lines,
@@ -68,8 +68,8 @@ pub fn dispatch(ring: Ring, rounds: u16) -> DispatchStep
         &mut carried,
         rounds,
     );
-    let head = after.head;
-    let dispatched = after.dispatched;
+    let head = ran.head;
+    let dispatched = ran.dispatched;
     let ring = Ring {
         head,
         slots,

@@ -13,12 +13,14 @@
 //
 // `perform`, `ask`, `dispatch` and `is_sound` lend the ring's own fields to the functions on a ring in parts, and no array is copied. The
 // others make a command or a question and hand the ring on. Each contract says the whole ring afterwards and the reply.
+pub mod dispatcher;
+
 use batch::sending::Fields;
 use batch::sending::Scale;
 use command::Command;
 use command::Question;
+pub use dispatcher::dispatch;
 use network::Answer;
-use network::Dispatched;
 use network::Reply;
 use network::Ring;
 use numbers::ChannelNo;
@@ -27,7 +29,6 @@ use questions::Tasks;
 ghost use mathlib.Core.Path.{_≡_};
 ghost use Rattle.batch.specs.Sending.{recordFrom};
 ghost use Rattle.network.specs.Answers.{callOf, questionCall};
-ghost use Rattle.network.specs.Dispatcher.{dispatchStep};
 ghost use Rattle.network.specs.Layout.{soundRing, ringAfter, replyTo, answerTo};
 ghost use Rattle.network.specs.Runs;
 ghost use Rattle.questions.specs.Tasks.{tasksTo, saidIn, tasksSaid};
@@ -61,23 +62,6 @@ pub fn ask(ring: &Ring, question: Question) -> Answer
         &ring.carried,
         question,
     )
-}
-
-// Runs the ring for so many rounds, or until nothing is on it. A round tries an entry and then a move at every node, from node 0 on.
-pub fn dispatch(ring: &mut Ring, rounds: u16) -> Dispatched
-    ensures { λ r. ⌜ (now (ring .exit) ≡ dispatchStep rounds (now (ring .entry)) .ring)
-        × (r ≡ dispatchStep rounds (now (ring .entry)) .dispatched) ⌝ }
-{
-    let s = dispatch::dispatch(
-        ring.head,
-        &mut ring.slots,
-        &mut ring.lines,
-        &mut ring.offers,
-        &mut ring.carried,
-        rounds,
-    );
-    ring.head = s.head;
-    s.dispatched
 }
 
 // Whether the ring is sound. No ring call: it is what every call asks first.

@@ -11,10 +11,10 @@ use Rattle.dispatch.proofs.dispatch.Symbol as run
 use Rattle.dispatch.proofs.dispatch.Met.{met}
 use Rattle.site.proofs.Types.{dispatched, head-dispatched}
 use Rattle.site.proofs.Lends.{lends}
-use Rattle.site.proofs.dispatch as in-site
-use Rattle.site.proofs.dispatch.Key.{name}
-use Rattle.site.proofs.dispatch.Statement.{statement}
-use Rattle.site.proofs.dispatch.Code as code
+use Rattle.site.proofs.dispatcher.dispatch as in-site
+use Rattle.site.proofs.dispatcher.dispatch.Key.{name}
+use Rattle.site.proofs.dispatcher.dispatch.Statement.{statement}
+use Rattle.site.proofs.dispatcher.dispatch.Code as code
 
 pub dispatch-spec : {M : Type 1} → statement M
 unfolding code.routine
