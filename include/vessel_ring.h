@@ -30,7 +30,7 @@
    - `ring` points to a whole struct vessel_ring that nothing else reads or writes during the call: the calls know no locks;
    - `table` points to `rows` rows, likewise; that they are 128 is checked;
    - `bytes` points to `length` bytes, and `tape` and `out` do not overlap;
-   - the stack has VESSEL_STACK bytes: the call copies the ring;
+   - the stack has VESSEL_STACK bytes, for vessel_ring_to_hundredths VESSEL_STACK_TURNING: no other call copies the ring;
    - memcpy and memset of the C library are there. Nothing is allocated, and nothing is kept between calls.
 
    A ring and a row have no padding: they may be copied, compared and stored as memory. Their numbers of 16 and 32 bits have the machine's
@@ -54,7 +54,8 @@ extern "C" {
 #define VESSEL_HISTORY_ROWS 128 /* of a history, no more and no fewer */
 #define VESSEL_READINGS 24      /* of a row of it */
 #define VESSEL_LINE_ROOM 160    /* room for any line of a listing */
-#define VESSEL_STACK 32768      /* some 25,100 bytes were measured, in the dispatcher */
+#define VESSEL_STACK 18432         /* 13,600 bytes were measured in the dispatcher, 11,400 in the listing, 7,150 in a move, 5,600 in any other */
+#define VESSEL_STACK_TURNING 32768 /* 23,300 */
 
 /* The refusals. Document 01 has the order in which each call tests them; docs/REFUSALS.md has it as a table. */
 enum vessel_refusal {
