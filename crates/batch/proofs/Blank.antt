@@ -1,4 +1,4 @@
--- The record of zeros is refused. Assumes nothing.
+-- The record of zeros is refused.
 use mathlib.Core.Path.{refl}
 use Rattle.batch.specs.Blank.{noRecord, NoRecordRefused}
 use Rattle.batch.proofs.Good.{batch-zero, verdict-batch}

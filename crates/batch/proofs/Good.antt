@@ -1,5 +1,5 @@
 -- Laws of a good record and of the first refusal that applies. Callers cite these and not the text of the definitions, so that
--- a limit or a clause can change behind its name. Assumes nothing.
+-- a limit or a clause can change behind its name.
 use mathlib.Core.Path.{_≡_, refl, sym, ap, _∙_}
 use mathlib.Core.Bool.{Bool, true, false, not, _&&_, false≢true, and-eq-true-iff}
 use Prim.Native.Nat.{ℕ, _≤_, _<_, _^_}

@@ -1,6 +1,5 @@
 -- A name's cells judged one at a time, as a loop meets them: what is said of the cells from i on is said of cell i and of those after it.
 -- The loops go to their end and keep whether all was right so far.
--- Assumes nothing.
 use mathlib.Core.Path.{_≡_, refl, _∙_}
 use mathlib.Core.Bool.{Bool, true, false, cond, _&&_, and-assoc}
 use mathlib.Core.List.{List, [], _∷_}

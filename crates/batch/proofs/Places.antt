@@ -1,5 +1,4 @@
 -- The table of places (`batch::PLACES`): at each place stands the place, by a test that is computed over the whole table.
--- Assumes nothing.
 use mathlib.Core.Path.{_≡_}
 use mathlib.Core.Bool.{Bool, true, _&&_, and-eq-true-iff}
 use mathlib.Core.List.{List, [], _∷_}

@@ -1,4 +1,4 @@
--- Laws of "the same batch". Assumes nothing.
+-- Laws of "the same batch".
 use mathlib.Core.Path.{ap₂}
 use lib.Dec.{eqb}
 use borrow.Author.Tests.{eqb-true, eq-eqb}

@@ -1,5 +1,5 @@
 -- The machine's arithmetic on an i16: its test tells the sign, and -1 - z takes a number below 0 to its magnitude. `toZ w16` and `ofZ w16`
--- are the machine's own reading of 16 bits, there and back. Assumes nothing.
+-- are the machine's own reading of 16 bits, there and back.
 use Prim.Native.Nat.{ℕ, zero, suc, _<_}
 use mathlib.Core.Path.{_≡_, refl, ap, _∙_}
 use mathlib.Core.Bool.{true, false, true≢false}

@@ -1,5 +1,5 @@
 -- A command's temperature in its unit is taken exactly where a record may have it, and tenths that are taken fit 16 bits ten times; the
--- worked temperatures; what send makes of a command's fields, by the tests of the code. Assumes nothing.
+-- worked temperatures; what send makes of a command's fields, by the tests of the code.
 use mathlib.Core.Path.{_≡_, refl, sym, ap, _∙_}
 use mathlib.Core.Logic.{_≢_}
 use mathlib.Core.Bool.{Bool, true, false, _&&_, false≢true, and-eq-true-iff}

@@ -1,5 +1,4 @@
 -- The record that stands where there is none: every field is zero.
--- Assumes nothing.
 use mathlib.Core.Path.{_≡_}
 use lib.IntN.{pos}
 use lib.ListN.{replicate}

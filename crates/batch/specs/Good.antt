@@ -1,5 +1,5 @@
 -- What makes a batch record good, clause by clause as document 01 has it, the first refusal that applies to a record, and what send asks
--- of one besides (document 02). Assumes nothing.
+-- of one besides (document 02).
 use mathlib.Core.Path.{_≡_}
 use mathlib.Core.Logic.{_↔_}
 use mathlib.Core.Bool.{Bool, true, false, not, _&&_, _||_}

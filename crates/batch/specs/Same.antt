@@ -1,5 +1,4 @@
 -- When two records are of the same batch: exactly when their batch numbers are equal; the name plays no part.
--- Assumes nothing.
 use mathlib.Core.Path.{_≡_}
 use mathlib.Core.Logic.{_↔_}
 use mathlib.Core.Bool.{Bool, true}

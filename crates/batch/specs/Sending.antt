@@ -1,5 +1,5 @@
 -- From a command's fields to a record (document 02): a command gives its temperature in tenths or in hundredths of a degree, a record has
--- hundredths. Assumes nothing.
+-- hundredths.
 use mathlib.Core.Path.{_≡_}
 use mathlib.Core.Bool.{Bool, false}
 use mathlib.Core.Logic.{_↔_, _≢_}

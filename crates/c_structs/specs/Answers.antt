@@ -1,4 +1,4 @@
--- What a ring call answers, in plain numbers. Assumes nothing.
+-- What a ring call answers, in plain numbers.
 use Prim.Native.Nat.{ℕ}
 use lib.Count.{ones}
 use Rattle.refusal.specs.Number.{numberOf}

@@ -1,4 +1,4 @@
--- A command of the tape in plain numbers, and what reading and writing one answers. Assumes nothing.
+-- A command of the tape in plain numbers, and what reading and writing one answers.
 use Prim.Native.Nat.{ℕ}
 use mathlib.Core.List.{List}
 use Rattle.batch.specs.declared.sending.Fields.{Fields}

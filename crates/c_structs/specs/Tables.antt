@@ -1,4 +1,4 @@
--- What the calls on a history table take and answer, in plain numbers. Assumes nothing.
+-- What the calls on a history table take and answer, in plain numbers.
 use Prim.Native.Nat.{ℕ}
 use lib.IntN.{pos}
 use Rattle.refusal.specs.Number.{numberOf}

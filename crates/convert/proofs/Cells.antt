@@ -1,4 +1,4 @@
--- The cells of a row, turned one after another: what a loop has after some, and what it ends with. Assumes nothing.
+-- The cells of a row, turned one after another: what a loop has after some, and what it ends with.
 use mathlib.Core.Path.{_≡_, refl, ap}
 use mathlib.Core.List.{List, [], _∷_, map}
 use Prim.Native.Nat.{ℕ, zero, suc, _<_, _≤_}

@@ -1,4 +1,4 @@
--- The worked rings, computed on the ring apart from its layout. Assumes nothing.
+-- The worked rings, computed on the ring apart from its layout.
 use mathlib.Core.Path.{_≡_, refl}
 use mathlib.Core.Bool.{true, false}
 use mathlib.Core.List.{[], _∷_}

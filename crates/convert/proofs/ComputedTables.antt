@@ -1,4 +1,4 @@
--- The worked tables (TableExamples.antt), computed. Assumes nothing.
+-- The worked tables (TableExamples.antt), computed.
 use mathlib.Core.Path.{refl}
 use Rattle.history.specs.Table.{soundTable, soundRow}
 use Rattle.history.specs.History.{figures}

@@ -1,5 +1,5 @@
 -- The records of a ring in their bytes, and the same turned: what is read of the one and of the other, and that either tells the other where
--- every temperature is one in tenths. Assumes nothing.
+-- every temperature is one in tenths.
 use Prim.Native.Nat.{ℕ, suc, _-_, _*_, _<_, _≤_, _^_}
 use mathlib.Core.Path.{_≡_, refl, sym, ap, _∙_}
 use mathlib.Core.Bool.{true, cond}

@@ -1,4 +1,4 @@
--- What is promised of every ring that is turned, and the worked rings in memory. Assumes nothing.
+-- What is promised of every ring that is turned, and the worked rings in memory.
 use Prim.Native.Nat.{ℕ}
 use mathlib.Core.Path.{_≡_, refl, sym, ap, subst, _∙_}
 use mathlib.Core.Bool.{Bool, true, false, _&&_, false≢true}

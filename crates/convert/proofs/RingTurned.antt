@@ -1,5 +1,5 @@
 -- What the code makes of a ring, bytes and all, is what the definition says of the ring that they hold: the two tests agree, and where they
--- pass the ring in memory is the turned one. Assumes nothing.
+-- pass the ring in memory is the turned one.
 use Prim.Native.Nat.{ℕ, zero, suc, _*_, _<_, _≤_, _^_}
 use mathlib.Core.Path.{_≡_, refl, sym, ap, subst, _∙_}
 use mathlib.Core.Bool.{Bool, true, false, _&&_}

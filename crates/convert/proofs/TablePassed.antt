@@ -1,4 +1,4 @@
--- What one pass over a table decides is what the definition says, and so is what the rows then become. Assumes nothing.
+-- What one pass over a table decides is what the definition says, and so is what the rows then become.
 use mathlib.Core.Path.{_≡_, refl, ap, _∙_}
 use mathlib.Core.Bool.{Bool, true, _&&_, and-assoc, and-eq-true-iff}
 use mathlib.Core.List.{List, [], _∷_, map}

@@ -1,5 +1,4 @@
 -- What is promised of a table that is turned (TurnedTable.antt): it is sound, each figure is ten times as many, and all else is the same.
--- Assumes nothing.
 use mathlib.Core.Path.{_≡_, refl, sym, ap, _∙_}
 use mathlib.Core.Bool.{Bool, true, false, cond, false≢true, and-eq-true-iff}
 use mathlib.Core.List.{List, [], _∷_, map}

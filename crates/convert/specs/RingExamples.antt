@@ -1,4 +1,4 @@
--- The turning of a ring, pinned down by worked ones, made by hand: what they become and then deliver, and which are refused. Assumes nothing.
+-- The turning of a ring, pinned down by worked ones, made by hand: what they become and then deliver, and which are refused.
 use mathlib.Core.Path.{_≡_}
 use mathlib.Core.List.{[], _∷_}
 use mathlib.Core.Option.{none, some}

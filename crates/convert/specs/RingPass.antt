@@ -1,4 +1,4 @@
--- The records of a ring, 64 in their bytes, as the code turns them: the definitions that the functions by value meet. Assumes nothing.
+-- The records of a ring, 64 in their bytes, as the code turns them: the definitions that the functions by value meet.
 use Prim.Native.Nat.{ℕ}
 use mathlib.Core.Bool.{Bool}
 use mathlib.Core.List.{List}

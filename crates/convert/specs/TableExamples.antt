@@ -1,4 +1,4 @@
--- The turning of a table, pinned down by worked ones: what they become, and which are refused and stay as they were. Assumes nothing.
+-- The turning of a table, pinned down by worked ones: what they become, and which are refused and stay as they were.
 use Prim.Native.Nat.{ℕ, _*_}
 use mathlib.Core.Path.{_≡_}
 use mathlib.Core.List.{List, [], _∷_, _++_, map}

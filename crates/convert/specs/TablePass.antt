@@ -1,5 +1,4 @@
 -- What the one pass over a table keeps, what it decides and what a row then becomes: the definitions that the functions by value meet.
--- Assumes nothing.
 use mathlib.Core.Bool.{true, cond, _&&_}
 use mathlib.Core.List.{map}
 use Prim.Native.Nat.{ℕ}

@@ -1,5 +1,5 @@
 -- A history table in tenths of a degree turned into hundredths, as document 02 has it: each temperature ten times as many, all else the same,
--- 25 where it is not sound in tenths; and what is promised of it. Assumes nothing.
+-- 25 where it is not sound in tenths; and what is promised of it.
 use mathlib.Core.Path.{_≡_}
 use mathlib.Core.Bool.{Bool, true, _&&_}
 use mathlib.Core.List.{List, map}

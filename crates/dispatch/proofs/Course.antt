@@ -1,5 +1,4 @@
--- Rounds one after the other: from where the loop stands, what is left of the rounds comes to the end that the definition gives. Assumes
--- nothing.
+-- Rounds one after the other: from where the loop stands, what is left of the rounds comes to the end that the definition gives.
 use Prim.Native.Nat.{ℕ, zero, suc, _+_, _-_, _≤_, _<_}
 use mathlib.Core.Path.{_≡_, refl, sym, ap, subst, _∙_}
 use mathlib.Core.Logic.{_⊎_, inl, inr, ⊎-elim}

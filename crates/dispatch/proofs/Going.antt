@@ -1,5 +1,4 @@
--- Entries and moves one after the other on a sound started ring: what is known stays known, and what was kept is what was delivered. Assumes
--- nothing.
+-- Entries and moves one after the other on a sound started ring: what is known stays known, and what was kept is what was delivered.
 use Prim.Native.Nat.{ℕ, _+_, _≤_, _<_}
 use mathlib.Core.Path.{_≡_, refl, sym, ap, subst, _∙_}
 use mathlib.Core.Logic.{_≢_}

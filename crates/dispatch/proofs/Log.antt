@@ -1,4 +1,4 @@
--- The log of a dispatcher's deliveries: more are kept after others, and how many there are. Assumes nothing.
+-- The log of a dispatcher's deliveries: more are kept after others, and how many there are.
 use Prim.Native.Nat.{_+_}
 use mathlib.Core.Path.{_≡_, refl}
 use mathlib.Core.List.{List, [], _∷_, _++_}

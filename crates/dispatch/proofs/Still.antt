@@ -1,5 +1,4 @@
--- When nothing is on the ring: what the loop over the phases has seen, and that on a sound ring this is the test of the definition. Assumes
--- nothing.
+-- When nothing is on the ring: what the loop over the phases has seen, and that on a sound ring this is the test of the definition.
 use Prim.Native.Nat.{ℕ, zero, suc, _+_, _≤_, _<_}
 use mathlib.Core.Path.{_≡_, refl, ap, _∙_}
 use mathlib.Core.Bool.{Bool, true, false, not, _&&_}

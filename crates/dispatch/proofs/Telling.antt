@@ -1,5 +1,5 @@
 -- What the log holds at the end is what was delivered: a log that began with zeros has the channels and the bytes of the records of all
--- deliveries, and the records read off these bytes are the records. Assumes nothing.
+-- deliveries, and the records read off these bytes are the records.
 use Prim.Native.Nat.{ℕ, zero, suc, _+_, _≤_, _<_}
 use mathlib.Core.Path.{_≡_, refl, sym, ap, subst, _∙_}
 use mathlib.Core.Bool.{true, cond}

@@ -1,5 +1,5 @@
 -- What is known where the dispatcher makes its entries and moves, what they come to, and when nothing is on the ring, on the numbers of the
--- head. Assumes nothing.
+-- head.
 use Prim.Native.Nat.{ℕ, _+_, _≤_}
 use mathlib.Core.Path.{_≡_}
 use mathlib.Core.Logic.{_≢_}

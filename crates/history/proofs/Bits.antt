@@ -1,4 +1,4 @@
--- A signed number of 16 bits and its bits: what the machine's test for zero tells. Assumes nothing.
+-- A signed number of 16 bits and its bits: what the machine's test for zero tells.
 use mathlib.Core.Path.{_≡_, refl}
 use Prim.Native.Nat.{_^_, _-_, suc}
 use native.Mathlib.Omega.{arith}

@@ -1,5 +1,5 @@
 -- Names with a blank at an end are noted: the worked notes, computed, and that it is so of every such record. They stand before all else that is
--- shown of a note, so that a history which asks what send asks is told by them. Assumes nothing.
+-- shown of a note, so that a history which asks what send asks is told by them.
 use mathlib.Core.Path.{refl}
 use Rattle.batch.specs.Good.{blankAtEnd, blankEnds, sendVerdict, verdictOf, batchGood, tempGood, nameLengthGood, nameGood, widthsGood, nameCellsGood}
 use Rattle.batch.proofs.Good.{good-exactly, means-30}

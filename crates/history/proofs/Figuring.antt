@@ -1,4 +1,4 @@
--- The three figures of readings, found one reading after another; and how large a sum can be. Assumes nothing.
+-- The three figures of readings, found one reading after another; and how large a sum can be.
 use mathlib.Core.Path.{_≡_, sym, ap, _∙_}
 use mathlib.Core.Bool.{cond}
 use mathlib.Core.List.{List, _∷_}

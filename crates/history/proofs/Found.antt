@@ -1,4 +1,4 @@
--- Where a number stands first in a list, as a search meets it: from a place on, one element after another. Assumes nothing.
+-- Where a number stands first in a list, as a search meets it: from a place on, one element after another.
 use mathlib.Core.Path.{_≡_, _∙_}
 use mathlib.Core.Logic.{_≢_}
 use mathlib.Core.Bool.{false, not, _&&_, _||_}

@@ -1,5 +1,5 @@
 -- What one pass over a table finds: whether it is sound, the row of the batch that is looked for, and the batch numbers. So what a call makes
--- of the pass is what its definition makes of the table. Assumes nothing.
+-- of the pass is what its definition makes of the table.
 use mathlib.Core.Path.{_≡_, refl, sym, ap, _∙_, subst}
 use mathlib.Core.Logic.{_≢_}
 use mathlib.Core.Bool.{Bool, true, false, cond, not, _&&_, _||_, true≢false, false≢true, and-eq-true-iff, and-assoc}

@@ -1,4 +1,4 @@
--- A row's cells when a reading joins: the first cell after the readings is written, and the oldest of 24 is left out. Assumes nothing.
+-- A row's cells when a reading joins: the first cell after the readings is written, and the oldest of 24 is left out.
 use mathlib.Core.Path.{_≡_, refl, sym, ap, _∙_}
 use mathlib.Core.List.{List, [], _∷_, _++_}
 use Prim.Native.Nat.{ℕ, suc, _+_, _-_, _<_, _≤_}

@@ -1,4 +1,4 @@
--- The batch numbers of a table when one of them is rewritten: where a number then stands, and that none but 0 stands twice. Assumes nothing.
+-- The batch numbers of a table when one of them is rewritten: where a number then stands, and that none but 0 stands twice.
 use mathlib.Core.Path.{_≡_, refl, sym, ap, _∙_}
 use mathlib.Core.Logic.{_≢_}
 use mathlib.Core.Bool.{Bool, true, false, cond, not, _||_, false≢true, true≢false, and-eq-true-iff}

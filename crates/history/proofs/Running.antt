@@ -1,5 +1,5 @@
 -- The promises over a run (Runs.antt): a call on a sound table leaves it sound, changes the readings of its own batch alone, and those as it
--- says; so after every list of calls the readings are the last of those accepted. Assumes nothing.
+-- says; so after every list of calls the readings are the last of those accepted.
 use mathlib.Core.Path.{_≡_, refl, sym, ap, _∙_, subst}
 use mathlib.Core.Logic.{_≢_}
 use mathlib.Core.Bool.{Bool, true, false, cond, not, _&&_, _||_, false≢true, and-eq-true-iff}

@@ -1,4 +1,4 @@
--- The kinds (Params.antt of `lent`) of what the calls take, keep and answer, and a row as the element of a table. Assumes nothing.
+-- The kinds (Params.antt of `lent`) of what the calls take, keep and answer, and a row as the element of a table.
 use mathlib.Core.Path.{refl}
 use denote.Struct.Laws as LL
 use Rattle.refusal.proofs.Verdict as J

@@ -1,5 +1,4 @@
 -- The worked lists of calls (Examples.antt), computed. Thousands of readings are not: 24 of them make a table that one more leaves as it is.
--- Assumes nothing.
 use Prim.Native.Nat.{ℕ, zero, suc, _+_, _-_}
 use mathlib.Core.Path.{_≡_, refl, sym, ap, _∙_}
 use mathlib.Core.Bool.{false}

@@ -1,5 +1,5 @@
 -- The history, pinned down by worked lists of calls: what they answer, by number and 0 where it is done; the rows that they leave; and the
--- figures told then. Assumes nothing.
+-- figures told then.
 use Prim.Native.Nat.{ℕ, zero, suc, _≤_}
 use mathlib.Core.Path.{_≡_}
 use mathlib.Core.List.{List, [], _∷_, _++_, map}

@@ -1,6 +1,6 @@
 -- The three calls on a history table, as document 02 has them: a record is noted, a batch is closed, the figures of a batch are asked for.
 -- Each judges the table first (25); a record is then judged as a ring judges those that it holds (11 to 14, and not 30, which is send's
--- alone), and 29 comes last. Assumes nothing.
+-- alone), and 29 comes last.
 use Prim.Native.Nat.{ℕ, _-_}
 use mathlib.Core.Bool.{cond, _||_}
 use mathlib.Core.List.{List, [], _∷_, _++_}

@@ -1,6 +1,6 @@
 -- What a history promises over a run: for every list of notes and closes from the empty table, the readings of every batch are the last 24 of
 -- the temperatures accepted for it since its last close, oldest first; and its figures are those of these readings. A record that send
--- refuses for the ends of its name is taken as any good one. Assumes nothing.
+-- refuses for the ends of its name is taken as any good one.
 use Prim.Native.Nat.{ℕ}
 use mathlib.Core.Path.{_≡_}
 use mathlib.Core.Logic.{_≢_}

@@ -1,5 +1,5 @@
 -- What one pass over a table keeps, and what each call makes of it: the definitions that the functions by value meet. A call tests the whole
--- table and finds its row in the same pass. Assumes nothing.
+-- table and finds its row in the same pass.
 use Prim.Native.Nat.{ℕ, suc, _^_, _-_}
 use mathlib.Core.Bool.{Bool, true, cond, _&&_}
 use mathlib.Core.List.{List}

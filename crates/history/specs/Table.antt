@@ -1,5 +1,5 @@
 -- The history table of document 02: rows of readings, one for each batch, and which rows and tables are sound. A reading is a record's
--- temperature. Assumes nothing.
+-- temperature.
 use Prim.Native.Nat.{ℕ, suc, _-_}
 use mathlib.Core.Bool.{Bool, true, false, cond, not, _&&_, _||_}
 use mathlib.Core.List.{List, [], _∷_, _++_, map}

@@ -1,4 +1,4 @@
--- A case split that hands each branch what it knows. Assumes nothing.
+-- A case split that hands each branch what it knows.
 use mathlib.Core.Logic.{_⊎_, inl, inr}
 
 pub by-case : {A B X : Type 0} → A ⊎ B → (A → X) → (B → X) → X

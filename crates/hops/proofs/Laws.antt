@@ -1,6 +1,6 @@
 -- The laws of hops, for the theory of the ring: where hops lead, their bounds, and that a move brings a message one hop
 -- nearer. Any number of nodes. Each law follows from one fact: the least h is q - p ahead of p, else n + q - p round the
--- ring. Assumes nothing.
+-- ring.
 use mathlib.Core.Path.{_≡_, refl, sym, _∙_, ap}
 use mathlib.Core.Bool.{Bool, true, false}
 use mathlib.Core.Logic.{_⊎_, inl, inr}

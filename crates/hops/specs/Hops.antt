@@ -1,5 +1,5 @@
 -- Hops on a ring of n nodes, in the words of document 01: the least h from 1 to n with p + h and q leaving the same
--- remainder by n. Any n, p and q. Assumes nothing.
+-- remainder by n. Any n, p and q.
 use Prim.Native.Nat.{ℕ, zero, suc, _+_, _%_, _<_, _≤_}
 use mathlib.Core.Path.{_≡_}
 use mathlib.Core.Bool.{Bool, cond, _&&_}

@@ -1,5 +1,5 @@
 -- Laws of a test and its statement (specs/Decides): of answers that are known, of comparisons, and of tests joined by "and", "or" and
--- "not". Assumes nothing.
+-- "not".
 use Prim.Native.Nat.{ℕ, _≤_, _<_}
 use mathlib.Core.Path.{_≡_, refl, sym, _∙_}
 use mathlib.Core.Logic.{_⊎_, inl, inr, ⊎-elim, _↔_}

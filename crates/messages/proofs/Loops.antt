@@ -1,6 +1,6 @@
 -- The loops of the test. Each goes over all its places and keeps one number: what it has found wrong, which is 0 exactly when the
 -- statement holds of every place passed (`Judging`), or what the places passed add up to (`Summing`). For each: the invariant, that it
--- holds at the start, that a turn keeps it, and what it says at the end. Assumes nothing.
+-- holds at the start, that a turn keeps it, and what it says at the end.
 use Prim.Native.Nat.{ℕ, _+_, _*_, _≤_, _<_}
 use mathlib.Core.Path.{_≡_, refl}
 use mathlib.Core.Bool.{Bool, true, false, not}

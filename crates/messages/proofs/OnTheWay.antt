@@ -1,5 +1,5 @@
 -- Where a message stands. The nodes on its way are those no further from the target than its node of entry is (`decides-way`); and by
--- the channel's phase it stands nowhere or on the way from its entry to its target. Assumes nothing.
+-- the channel's phase it stands nowhere or on the way from its entry to its target.
 use Prim.Native.Nat.{ℕ, _≤_, _<_, min}
 use mathlib.Core.Path.{_≡_, refl}
 use mathlib.Core.Logic.{_≢_}

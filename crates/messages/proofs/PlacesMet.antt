@@ -1,6 +1,6 @@
 -- The table of places after the pass over the rows (specs/RowPass). A channel was met as many times as it stands in the cells, at most
 -- once, and where it stands in a row the table has the row's place (`Met`, `MetRows`, `Places`). Back: rows whose cells are used, with
--- channels in use that stand there at most once, do not stop the pass. Assumes nothing.
+-- channels in use that stand there at most once, do not stop the pass.
 use Prim.Native.Nat.{ℕ, zero, suc, pred, _+_, _≤_, _<_, min}
 use mathlib.Core.Path.{_≡_, refl, sym, _∙_}
 use mathlib.Core.List.{List, [], _∷_}

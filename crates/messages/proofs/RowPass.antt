@@ -1,5 +1,5 @@
 -- Laws of the pass over the rows (specs/RowPass), as its loops need them: a cell, a row, several rows, all rows. What the table says after
--- the pass is in PlacesMet. Assumes nothing.
+-- the pass is in PlacesMet.
 use Prim.Native.Nat.{ℕ, zero, suc, pred, _+_, _-_, _≤_, _<_, min}
 use mathlib.Core.Path.{_≡_, refl, _∙_}
 use mathlib.Core.Bool.{true, false}

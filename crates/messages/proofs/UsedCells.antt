@@ -1,5 +1,5 @@
 -- The cells of a row that are used: each holds the number of a channel in use, counted from 1. Where as many cells are not zero as are
--- used, the others are zero, and the row is its queue laid out. Assumes nothing.
+-- used, the others are zero, and the row is its queue laid out.
 use Prim.Native.Nat.{ℕ, zero, suc, pred, _+_, _≤_, _<_, min}
 use mathlib.Core.Path.{_≡_, refl, sym, ap, _∙_}
 use mathlib.Core.List.{List, [], _∷_, map}

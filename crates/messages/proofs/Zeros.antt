@@ -1,4 +1,4 @@
--- Rows of cells, and cells that are zero: what is laid out where there is nothing, and the rows beyond those in use. Assumes nothing.
+-- Rows of cells, and cells that are zero: what is laid out where there is nothing, and the rows beyond those in use.
 use Prim.Native.Nat.{ℕ, _+_, _*_, _-_, _/_, _%_, _≤_, _<_}
 use mathlib.Core.Path.{_≡_, sym, ap, _∙_}
 use mathlib.Core.List.{List, []}

@@ -1,4 +1,4 @@
--- A test and its statement: the answer is true exactly when the statement holds. Assumes nothing.
+-- A test and its statement: the answer is true exactly when the statement holds.
 use mathlib.Core.Path.{_≡_}
 use mathlib.Core.Bool.{Bool, true}
 

@@ -1,5 +1,5 @@
 -- What the tests of this crate decide: cells that hold nothing are zero (`Blank`), and in the rows each message stands once, and where it
--- may, and exactly the channels that have one on the ring have one there (`MessagesFit`). Assumes nothing.
+-- may, and exactly the channels that have one on the ring have one there (`MessagesFit`).
 use Prim.Native.Nat.{ℕ, _+_, _*_, _<_, _≤_}
 use mathlib.Core.Path.{_≡_}
 use mathlib.Core.Bool.{Bool, true}

@@ -1,5 +1,5 @@
 -- The pass over the rows of cells. It notes in a table, by channel, the place of the row in which a channel's message was met, and stops
--- at a cell that isn't used, names no channel in use, or names one that was met before. Assumes nothing.
+-- at a cell that isn't used, names no channel in use, or names one that was met before.
 use Prim.Native.Nat.{ℕ, zero, suc, pred, _+_, min}
 use mathlib.Core.Path.{_≡_}
 use mathlib.Core.Bool.{Bool, true, false, cond, _&&_}

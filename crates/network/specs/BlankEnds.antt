@@ -1,5 +1,5 @@
 -- Blanks at the ends of a name (document 02): what send answers, worked row by row, and what is promised of a ring that holds such a record
--- from before, offered or carried: it is sound, and the record is delivered as it is. From a fresh ring none is delivered. Assumes nothing.
+-- from before, offered or carried: it is sound, and the record is delivered as it is. From a fresh ring none is delivered.
 use Prim.Native.Nat.{ℕ, _-_}
 use mathlib.Core.Path.{_≡_}
 use mathlib.Core.Logic.{_⊎_}

@@ -1,6 +1,6 @@
 -- The nine ring calls of document 01, "Steps" and "Refusal by operation", and withdraw of document 02: each is a function of its operands
 -- and the ring, and answers the first refusal that applies, or is accepted with an answer and the next ring. That an unsound ring is
--- refused before all others is said once, where a ring in memory is called (Layout). Assumes nothing.
+-- refused before all others is said once, where a ring in memory is called (Layout).
 use Prim.Native.Nat.{ℕ, zero, suc, _+_, _*_, _^_}
 use mathlib.Core.Bool.{Bool, true, false, cond, _&&_, _||_, not}
 use mathlib.Core.List.{List, [], _∷_, _++_}

@@ -1,5 +1,5 @@
 -- Request N7 of document 02, two fitters at two ends: of entries and moves, two that touch no common node may come in either order. Said of
--- whatever answers ring calls, and asked of the ring in memory and of what code returns; worked pairs are in Pairs. Assumes nothing.
+-- whatever answers ring calls, and asked of the ring in memory and of what code returns; worked pairs are in Pairs.
 use Prim.Native.Nat.{ℕ, _≤_}
 use mathlib.Core.Path.{_≡_}
 use mathlib.Core.Logic.{_⊎_}

@@ -1,5 +1,4 @@
 -- Sums, counts and tests over the numbers below a bound and over lists: the few words that the other definitions are written in.
--- Assumes nothing.
 use Prim.Native.Nat.{ℕ, zero, suc, _+_}
 use mathlib.Core.Bool.{Bool, true, false, cond, _&&_}
 use mathlib.Core.List.{List, [], _∷_, _++_}

@@ -1,6 +1,6 @@
 -- What is promised of the vessel ring, stated once for whatever answers ring calls: the ring apart from its layout, the ring in
 -- memory, and code (Promise). `Safe` is about each call; `Demand3` is one claim about whole lists of calls, accepted or refused, in any
--- order. Assumes nothing.
+-- order.
 use Prim.Native.Nat.{_≤_, _<_}
 use mathlib.Core.Path.{_≡_}
 use mathlib.Core.Logic.{_⊎_}

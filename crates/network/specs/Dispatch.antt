@@ -1,5 +1,5 @@
 -- The dispatcher of document 02: one call that runs the ring for a number of rounds, defined by the same entries and moves called singly,
--- on anything that answers ring calls. Then lists of calls with dispatcher calls among them, and what is promised of both. Assumes nothing.
+-- on anything that answers ring calls. Then lists of calls with dispatcher calls among them, and what is promised of both.
 use Prim.Native.Nat.{ℕ, zero, suc, _+_, _*_, _≤_, _<_}
 use mathlib.Core.Path.{_≡_}
 use mathlib.Core.Logic.{_⊎_}

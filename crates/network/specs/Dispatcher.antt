@@ -1,5 +1,5 @@
 -- The dispatcher of the ring in memory, which its contracts cite, and its answer in code; and what is promised of code that meets the
--- contracts, in lists of calls with dispatcher calls among them. Assumes nothing.
+-- contracts, in lists of calls with dispatcher calls among them.
 use Prim.Native.Nat.{ℕ, _≤_}
 use mathlib.Core.Path.{_≡_}
 use mathlib.Core.Logic.{_≢_}

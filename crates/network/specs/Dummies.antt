@@ -1,6 +1,6 @@
 -- The five dummies of document 01, "Conditions of acceptance", as ways to answer ring calls, each made of the true calls in a line or two;
 -- and the claims that demand 2 rejects all five, that the bound and the order in demand 3 alone reject the first, the fourth and the
--- fifth, and that each part of what is promised can fail. Assumes nothing.
+-- fifth, and that each part of what is promised can fail.
 use Prim.Native.Nat.{suc, _+_}
 use mathlib.Core.Path.{_≡_}
 use mathlib.Core.Logic.{_≢_}

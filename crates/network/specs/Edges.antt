@@ -1,5 +1,5 @@
 -- The edges P1 to P11 of document 01 as one table, and its two worked runs, the one of the tape and the turn case, as lists of calls with
--- what they answer. All are asked of what the contracts cite: the calls on the ring in memory, `hops` and `sendVerdict`. Assumes nothing.
+-- what they answer. All are asked of what the contracts cite: the calls on the ring in memory, `hops` and `sendVerdict`.
 use Prim.Native.Nat.{ℕ, _<_}
 use mathlib.Core.Path.{_≡_}
 use mathlib.Core.List.{List, [], _∷_, _++_, map}

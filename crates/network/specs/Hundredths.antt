@@ -1,5 +1,5 @@
 -- Tenths and hundredths of a degree (document 02): what send answers to the temperatures of commands 21 and 25, worked row by row, and what
--- is delivered of them. Assumes nothing.
+-- is delivered of them.
 use Prim.Native.Nat.{ℕ}
 use mathlib.Core.Path.{_≡_}
 use mathlib.Core.List.{List, [], _∷_, map}

@@ -1,5 +1,5 @@
 -- How a ring lies in memory, and the ring calls on it. `view` reads the ring off its arrays, `hold` lays one out; the definitions
--- above know nothing of cells. Only this file knows how many nodes, channels and cells the arrays have room for. Assumes nothing.
+-- above know nothing of cells. Only this file knows how many nodes, channels and cells the arrays have room for.
 use Prim.Native.Nat.{ℕ, zero, suc, pred, _+_, _*_}
 use mathlib.Core.Bool.{Bool, true, false, cond, _&&_}
 use mathlib.Core.List.{List, [], _∷_, _++_, map}

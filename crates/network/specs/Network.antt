@@ -1,6 +1,6 @@
 -- The ring of document 01 apart from how it is held in memory: nodes with a buffer and a line, channels with a phase and an offer.
 -- Buffers and lines are lists of channel numbers, first come first. A node number and a channel number are two types, so that neither is
--- taken for the other. Nothing here knows how many nodes or channels there may be. Assumes nothing.
+-- taken for the other. Nothing here knows how many nodes or channels there may be.
 use Prim.Native.Nat.{ℕ, _+_}
 use mathlib.Core.Bool.{Bool, true, false}
 use mathlib.Core.List.{List, [], _∷_, _++_, map}

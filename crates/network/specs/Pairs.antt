@@ -1,5 +1,5 @@
 -- Request N7 of document 02 (Commute), pinned down by worked pairs of entries and moves: what they answer and leave in either order, that the
--- condition matters, and that a sound ring does. Said of whatever answers ring calls, and asked of the ring in memory. Assumes nothing.
+-- condition matters, and that a sound ring does. Said of whatever answers ring calls, and asked of the ring in memory.
 use Prim.Native.Nat.{ℕ}
 use mathlib.Core.Path.{_≡_}
 use mathlib.Core.Bool.{true, false}

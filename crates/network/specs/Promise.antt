@@ -1,6 +1,5 @@
 -- What is promised of code that answers each ring call with a step, the ring and a reply. Everything is said of what the code returns, by
--- document 01's number and values: demand 1 and demand 3, if the code meets the contracts of the ring calls, which are demand 2. Assumes
--- nothing.
+-- document 01's number and values: demand 1 and demand 3, if the code meets the contracts of the ring calls, which are demand 2.
 use mathlib.Core.Path.{_≡_}
 use mathlib.Core.Logic.{_≢_}
 use Rattle.batch.specs.Blank.{noRecord}

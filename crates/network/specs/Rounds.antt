@@ -1,6 +1,6 @@
 -- The dispatcher (document 02), pinned down by worked rounds: how many are made, what is delivered and in which order, and what is left,
 -- where each gives a wrong dispatcher away; what a dispatcher call stands for, call by call, and what of it is counted; and that no round is
--- made too many. Said of whatever answers ring calls, and asked of the ring in memory. Assumes nothing.
+-- made too many. Said of whatever answers ring calls, and asked of the ring in memory.
 use Prim.Native.Nat.{ℕ, suc, _<_}
 use mathlib.Core.Path.{_≡_}
 use mathlib.Core.Bool.{Bool, true, false}

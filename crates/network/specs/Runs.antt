@@ -1,6 +1,5 @@
 -- Document 01, "Runs of calls", with the withdrawals of document 02: lists of calls on anything that answers ring calls, what was offered
--- and delivered on a channel, and what is counted. S is what is called: the ring apart from its layout, or the ring in memory. Assumes
--- nothing.
+-- and delivered on a channel, and what is counted. S is what is called: the ring apart from its layout, or the ring in memory.
 use Prim.Native.Nat.{ℕ, suc, _+_, _*_}
 use mathlib.Core.Bool.{Bool, true, false, cond, not}
 use mathlib.Core.List.{List, [], _∷_, _++_}

@@ -1,4 +1,4 @@
--- Document 01, "A sound ring", clause by clause, as one test that can be run. Assumes nothing.
+-- Document 01, "A sound ring", clause by clause, as one test that can be run.
 use Prim.Native.Nat.{ℕ, _+_, min}
 use mathlib.Core.Bool.{Bool, true, false, cond, _&&_, _||_, not}
 use mathlib.Core.Option.{Option, none, some}

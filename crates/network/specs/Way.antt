@@ -1,5 +1,5 @@
 -- The way of a message as document 01 words it: "from its node of entry up to the node before its target in ring order". `bufferFits`
--- says this by a comparison of hops, and `WayIsHops` says that it is the same. Assumes nothing.
+-- says this by a comparison of hops, and `WayIsHops` says that it is the same.
 use Prim.Native.Nat.{ℕ, zero, suc, _<_}
 use mathlib.Core.Path.{_≡_}
 use mathlib.Core.Logic.{_↔_}

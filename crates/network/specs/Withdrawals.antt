@@ -1,6 +1,6 @@
 -- Withdraw (document 02), pinned down by worked lists: what withdrawals answer and what they leave, of the ring in memory, and what is
 -- counted, where each list gives a wrong count away; what refusal 28 means; and the claim that demand 3 needs its exception, the matched
--- pair that is withdrawn. Assumes nothing.
+-- pair that is withdrawn.
 use Prim.Native.Nat.{ℕ, _<_}
 use mathlib.Core.Path.{_≡_}
 use mathlib.Core.Logic.{_⊎_, _↔_}

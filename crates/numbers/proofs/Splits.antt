@@ -1,4 +1,4 @@
--- Case splits that keep the equation: on a test, on two numbers that are the same or not, on one that is less or not. Assumes nothing.
+-- Case splits that keep the equation: on a test, on two numbers that are the same or not, on one that is less or not.
 use Prim.Native.Nat.{ℕ, _≤_, _<_}
 use mathlib.Core.Path.{_≡_, refl}
 use mathlib.Core.Logic.{_≢_}

@@ -1,5 +1,5 @@
 -- A plain number as that of a node or of a channel, and which of these are the same. A plain number is not bounded, so what is defined
--- with them holds for any size of ring. Assumes nothing.
+-- with them holds for any size of ring.
 use Prim.Native.Nat.{ℕ}
 use mathlib.Core.Bool.{Bool}
 use lib.Dec.{eqb}

@@ -1,5 +1,5 @@
 -- The three calls that build a ring, on a sound ring in memory that has not started: each refusal by the tests that the code makes, and what an accepted
--- call leaves in memory. Assumes nothing.
+-- call leaves in memory.
 use Prim.Native.Nat.{ℕ, _+_, _≤_, _<_}
 use mathlib.Core.Path.{_≡_, sym, ap, _∙_}
 use mathlib.Core.Bool.{true, false, _&&_, not}

@@ -1,5 +1,5 @@
 -- Where a message stands, as the code finds it in the cells, and what hops left comes to from there. A buffer's cells hold the channel
--- numbers of the buffer, each one higher. Assumes nothing.
+-- numbers of the buffer, each one higher.
 use Prim.Native.Nat.{ℕ, zero, suc, _+_, _*_, _≤_, _<_}
 use mathlib.Core.Path.{_≡_, refl, sym, ap, _∙_}
 use mathlib.Core.Logic.{_≢_}

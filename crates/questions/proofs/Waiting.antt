@@ -1,5 +1,5 @@
 -- The waiting set of a node as the code makes it, from the last channel to the first, and how many ones it has: as many as there are
--- channels that wait at the node. Assumes nothing.
+-- channels that wait at the node.
 use Prim.Native.Nat.{ℕ, zero, suc, _+_, _*_, _^_, _≤_, _<_}
 use mathlib.Core.Path.{_≡_, refl, sym, ap, _∙_}
 use mathlib.Core.Bool.{Bool, true, false, _&&_, not}

@@ -1,5 +1,5 @@
 -- What the questions find in the numbers of a ring: where a message stands and how far it has to go, and which channels wait at a node.
--- proofs/ shows each to be what the definitions say of the ring that is held. Assumes nothing.
+-- proofs/ shows each to be what the definitions say of the ring that is held.
 use Prim.Native.Nat.{ℕ, zero, suc, _+_, _*_, _^_, _≤_, _<_}
 use mathlib.Core.Bool.{Bool, false, cond, _&&_, _||_, not}
 use mathlib.Core.List.{List}

@@ -1,5 +1,5 @@
 -- How many tasks of a node wait, document 01, "Refusal by operation": counted on the ring, as the ones of the waiting set, and as the code
--- answers it. Assumes nothing.
+-- answers it.
 use Prim.Native.Nat.{ℕ}
 use mathlib.Core.Path.{_≡_}
 use lib.Count.{ones}

@@ -1,5 +1,5 @@
 -- The laws of the refusals' numbers. The list of all refusals, in the order of their numbers, leads from a number back to its
--- refusal (`caseOf`); so two refusals of one number are one. Assumes nothing.
+-- refusal (`caseOf`); so two refusals of one number are one.
 use mathlib.Core.Path.{_≡_, refl, sym, ap, _∙_}
 use mathlib.Core.List.{List, [], _∷_}
 use Prim.Native.Nat.{ℕ, _-_, _≤_}

@@ -1,4 +1,4 @@
--- The lines of the report that document 01 shows are what the definitions say, by computation. Assumes nothing.
+-- The lines of the report that document 01 shows are what the definitions say, by computation.
 use mathlib.Core.Path.{refl}
 use Rattle.text.specs.Digits.{digits, decimal, hex2, signed}
 use Rattle.report.specs.Line.{recordFields, lineOf, endOf}

@@ -1,4 +1,4 @@
--- What `put` is where the line fits and where it does not, and for a line that was built in a text. Assumes nothing.
+-- What `put` is where the line fits and where it does not, and for a line that was built in a text.
 use Prim.Native.Nat.{ℕ, _+_, _≤_, _<_}
 use mathlib.Core.Path.{_≡_, refl}
 use mathlib.Core.List.{List}

@@ -1,5 +1,5 @@
 -- Lines of the report that document 01 shows, the delivery in hundredths, and one with a temperature below 0 and no name. Each row has the
--- bytes that a line is to be, and the line as it is defined. Assumes nothing.
+-- bytes that a line is to be, and the line as it is defined.
 use Prim.Native.Nat.{ℕ}
 use mathlib.Core.Path.{_≡_}
 use mathlib.Core.List.{List, [], _∷_, _++_, map}

@@ -1,4 +1,4 @@
--- The lines of the report, byte by byte, as document 01 has them under "Command tape". Assumes nothing.
+-- The lines of the report, byte by byte, as document 01 has them under "Command tape".
 use Prim.Native.Nat.{ℕ}
 use mathlib.Core.List.{List, [], _∷_, _++_}
 use mathlib.Core.Option.{Option, none, some}

@@ -1,4 +1,4 @@
--- A line put into a lent buffer at a place: the whole line where it fits, or nothing. Assumes nothing.
+-- A line put into a lent buffer at a place: the whole line where it fits, or nothing.
 use Prim.Native.Nat.{ℕ, _+_}
 use mathlib.Core.Bool.{Bool, cond}
 use mathlib.Core.List.{List}

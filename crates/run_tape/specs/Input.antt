@@ -1,4 +1,4 @@
--- A tape that was read into a buffer lies within it. Assumes nothing.
+-- A tape that was read into a buffer lies within it.
 use Prim.Native.Nat.{ℕ, _≤_}
 use mathlib.Core.List.{List}
 use lib.ListN.{length}

@@ -1,5 +1,5 @@
 -- The counts of a session are exact: those that stop at the largest number are the same as those that rise by one, as long as they stay
--- below it, which the counts of a tape that is run do. So what is to come at the beginning is the listing. Assumes nothing.
+-- below it, which the counts of a tape that is run do. So what is to come at the beginning is the listing.
 use Prim.Native.Nat.{ℕ, zero, suc, _+_, _-_, _≤_, _<_}
 use mathlib.Core.Path.{_≡_, refl, sym, _∙_}
 use mathlib.Core.List.{List}

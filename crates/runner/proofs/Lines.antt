@@ -1,5 +1,5 @@
 -- Laws of the lines to come. The reader either goes on within the tape or stops, so each line leaves fewer to come than before: the
--- count `left` bounds them, and the lines that are allowed are always enough. Assumes nothing.
+-- count `left` bounds them, and the lines that are allowed are always enough.
 use Prim.Native.Nat.{ℕ, zero, suc, _+_, _-_, _≤_, _<_, min}
 use mathlib.Core.Path.{_≡_, refl, sym, ap, _∙_}
 use mathlib.Core.Logic.{_≢_}

@@ -1,4 +1,4 @@
--- What a line that was put leaves where there is room for any line. Assumes nothing.
+-- What a line that was put leaves where there is room for any line.
 use Prim.Native.Nat.{ℕ, _+_, _≤_}
 use mathlib.Core.Path.{_≡_, _∙_}
 use mathlib.Core.List.{List}

@@ -1,5 +1,4 @@
 -- A run into a lent buffer, line by line: what was written so far and what is then to come are together what was to come.
--- Assumes nothing.
 use Prim.Native.Nat.{ℕ, suc, _+_, _≤_, _<_}
 use mathlib.Core.Path.{_≡_, refl, sym, ap, _∙_}
 use mathlib.Core.Bool.{false}

@@ -1,4 +1,4 @@
--- A tape is the run of its calls: line by line, by what was read. Assumes nothing.
+-- A tape is the run of its calls: line by line, by what was read.
 use Prim.Native.Nat.{ℕ, zero, suc, _≤_, _<_}
 use mathlib.Core.Path.{_≡_, refl, sym, ap, _∙_}
 use mathlib.Core.Bool.{true, false}

@@ -1,4 +1,4 @@
--- A line that the program told, with the ring beside it, is the next line of the session: one lemma for each way. Assumes nothing.
+-- A line that the program told, with the ring beside it, is the next line of the session: one lemma for each way.
 use Prim.Native.Nat.{ℕ, _<_}
 use mathlib.Core.Path.{_≡_, ap, _∙_}
 use mathlib.Core.List.{List}

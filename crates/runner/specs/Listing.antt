@@ -1,6 +1,5 @@
 -- The listing of a tape as bytes, and what is claimed of it: the listing that is still to come of a session, at the beginning, is all
 -- of it, and once the session is over there is none. So a caller that runs a tape until it is over prints the tape's listing.
--- Assumes nothing.
 use Prim.Native.Nat.{ℕ, _+_, _<_}
 use mathlib.Core.Path.{_≡_}
 use mathlib.Core.Bool.{true, false}

@@ -1,5 +1,5 @@
 -- What a run into a lent buffer does: it writes whole lines, the first of those to come, from the buffer's beginning. Document 01 leaves
--- free how many are written at a time. Assumes nothing.
+-- free how many are written at a time.
 use Prim.Native.Nat.{ℕ, _+_, _<_, _≤_}
 use mathlib.Core.Path.{_≡_}
 use mathlib.Core.Bool.{true, false}

@@ -1,6 +1,5 @@
 -- A run of a tape, line by line: a session says where the run stands, and `next` what it prints next, in the words of document 01,
 -- "Command tape". How a count rises is a parameter: by one in the listing, and up to the largest number of 32 bits in the program.
--- Assumes nothing.
 use Prim.Native.Nat.{ℕ, zero, suc, _+_}
 use mathlib.Core.Bool.{Bool, true, false, cond}
 use mathlib.Core.List.{List, [], _++_}

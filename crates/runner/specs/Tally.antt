@@ -1,5 +1,5 @@
 -- The lines of a run as the program keeps them: the ring apart, and beside it the tally, which is all else of the session. What a line
--- does to the tally is what `ended` and `passed` do to the session; proofs/Turns puts the two together. Assumes nothing.
+-- does to the tally is what `ended` and `passed` do to the session; proofs/Turns puts the two together.
 use Prim.Native.Nat.{ℕ}
 use mathlib.Core.Path.{_≡_}
 use mathlib.Core.Bool.{true, cond}

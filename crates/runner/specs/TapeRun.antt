@@ -1,5 +1,5 @@
 -- The ring calls of a tape, and what is claimed of a run of it: the ring of the session after so many lines is the run of their calls from
--- a fresh ring. So what is promised of every list of calls, demand 3 first, is promised of every tape. Assumes nothing.
+-- a fresh ring. So what is promised of every list of calls, demand 3 first, is promised of every tape.
 use Prim.Native.Nat.{ℕ, zero, suc, _≤_, _<_}
 use mathlib.Core.Path.{_≡_}
 use mathlib.Core.List.{List, [], _∷_, _++_}

@@ -1,5 +1,5 @@
 -- The codes of a phase and the flags of an offer and a mark, which in range are read back as they were, and the bytes of a record that is
--- offered or carried. Assumes nothing.
+-- offered or carried.
 use Prim.Native.Nat.{ℕ, _≤_}
 use mathlib.Core.Path.{_≡_, refl, ap, _∙_}
 use mathlib.Core.Bool.{Bool, true, false, cond, not}

@@ -1,4 +1,4 @@
--- A ring that fits (specs/Fits) holds in its arrays what is read off them, node by node and channel by channel. Assumes nothing.
+-- A ring that fits (specs/Fits) holds in its arrays what is read off them, node by node and channel by channel.
 use Prim.Native.Nat.{ℕ, _*_, _≤_, _<_}
 use mathlib.Core.Path.{_≡_, refl, sym}
 use mathlib.Core.List.{List, []}

@@ -1,4 +1,4 @@
--- A ring that fits (specs/Fits) is sound: the ring that is read off its arrays passes every clause of soundness. Assumes nothing.
+-- A ring that fits (specs/Fits) is sound: the ring that is read off its arrays passes every clause of soundness.
 use Prim.Native.Nat.{ℕ, _+_, _≤_, _<_, min}
 use mathlib.Core.Path.{_≡_, refl, sym, ap, _∙_}
 use mathlib.Core.Bool.{Bool, true, false, cond}

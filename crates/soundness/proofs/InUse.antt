@@ -1,5 +1,5 @@
 -- Tests of what is in use or else holds nothing (specs/Fits, `Either` and `Nothing`): of one thing, by a flag, and of all, in a loop over
--- places of which the first are in use. Assumes nothing.
+-- places of which the first are in use.
 use Prim.Native.Nat.{ℕ, _+_, _≤_, _<_}
 use mathlib.Core.Path.{_≡_}
 use mathlib.Core.Bool.{Bool, true, false, not, _&&_, _||_, or-false}

@@ -1,5 +1,5 @@
 -- A queue and its row of cells: read off a row whose cells are used, it is laid out again as that row, and a queue that is laid out in a
--- row has its cells used. Assumes nothing.
+-- row has its cells used.
 use Prim.Native.Nat.{ℕ, pred, _≤_, _<_}
 use mathlib.Core.Path.{_≡_, refl, sym, ap, _∙_}
 use mathlib.Core.Bool.{true}

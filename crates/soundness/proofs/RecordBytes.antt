@@ -1,5 +1,5 @@
 -- The two tests of a record's bytes (specs/Fits, `BytesFit`): a good record is written back as its bytes, and zeros are what is laid
--- out where there is none. Assumes nothing.
+-- out where there is none.
 use Prim.Native.Nat.{ℕ, zero, suc, _+_, _*_}
 use mathlib.Core.Path.{_≡_, refl, sym, ap, _∙_}
 use mathlib.Core.Bool.{Bool, true, false, _&&_, false≢true}

@@ -1,5 +1,5 @@
 -- A sound ring fits (specs/Fits): its head and its records, and here its messages, of which each stands once and where it may, so that
--- the pass over the rows meets it there. Assumes nothing.
+-- the pass over the rows meets it there.
 use Prim.Native.Nat.{ℕ, _+_, _≤_, _<_, min}
 use mathlib.Core.Path.{_≡_, sym, _∙_}
 use mathlib.Core.List.{List}

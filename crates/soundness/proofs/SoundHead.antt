@@ -1,4 +1,4 @@
--- The head and the records of a sound ring fit (specs/Fits), clause by clause as the test has them. Assumes nothing.
+-- The head and the records of a sound ring fit (specs/Fits), clause by clause as the test has them.
 use Prim.Native.Nat.{ℕ, _≤_, _<_}
 use mathlib.Core.Path.{_≡_, refl, sym, ap, _∙_}
 use mathlib.Core.Bool.{Bool, true, false, cond, not}

@@ -1,5 +1,5 @@
 -- What is read of a ring in memory below its counts; and a ring in whose arrays stands what is read off it (network's `Held`) is laid out
--- as it should be (`hold-is`). Assumes nothing.
+-- as it should be (`hold-is`).
 use Prim.Native.Nat.{ℕ, _≤_, _<_}
 use mathlib.Core.Path.{_≡_, sym, _∙_}
 use mathlib.Core.Bool.{Bool}

@@ -1,6 +1,6 @@
 -- What the test for a sound ring decides, over the arrays of a ring, part by part as the code has it; what it says of blank cells and of
 -- the messages stands in the crate `messages`. `Fits` is the whole; it holds of exactly the sound rings of the definitions
--- (proofs/FitsSound one way, proofs/SoundFits the other). Assumes nothing.
+-- (proofs/FitsSound one way, proofs/SoundFits the other).
 use Prim.Native.Nat.{ℕ, _*_, _<_, _≤_}
 use mathlib.Core.Path.{_≡_}
 use mathlib.Core.Logic.{_≢_}

@@ -1,4 +1,4 @@
--- What reading answers, case by case of its tests. Assumes nothing.
+-- What reading answers, case by case of its tests.
 use Prim.Native.Nat.{ℕ, _+_, _<_, _≤_}
 use mathlib.Core.Path.{_≡_}
 use mathlib.Core.List.{List}

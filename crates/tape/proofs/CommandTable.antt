@@ -1,5 +1,5 @@
 -- Laws of the table of commands: which row a command byte has, and that rows and actions belong together. The facts of a row and of an action
--- are computed; the rest is by the laws of the shapes. Assumes nothing.
+-- are computed; the rest is by the laws of the shapes.
 use Prim.Native.Nat.{ℕ, _<_, _≤_}
 use mathlib.Core.Path.{_≡_, refl, sym, ap, _∙_}
 use mathlib.Core.Bool.{Bool, true, false, cond}

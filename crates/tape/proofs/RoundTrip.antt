@@ -1,5 +1,5 @@
 -- The theorems on reading and writing together. A reading that found a command passed each test on the way, and its command is
--- what the row of the command byte makes of the bytes; the laws of the rows do the rest. Assumes nothing.
+-- what the row of the command byte makes of the bytes; the laws of the rows do the rest.
 use Prim.Native.Nat.{ℕ, _+_, _-_, _<_, _≤_}
 use mathlib.Core.Path.{_≡_, refl, sym, ap, _∙_}
 use mathlib.Core.Bool.{Bool, true, false, cond}

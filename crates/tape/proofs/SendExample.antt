@@ -1,4 +1,4 @@
--- The listing's send command and its like in hundredths, computed. Assumes nothing.
+-- The listing's send command and its like in hundredths, computed.
 use mathlib.Core.Path.{refl}
 use Rattle.wire.specs.Bytes.{little, number, twos, signed}
 use Rattle.wire.specs.Record.{recordBytes, recordIn}

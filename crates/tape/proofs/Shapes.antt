@@ -1,5 +1,5 @@
 -- Laws of the shapes of a command, by cases of the shape: a command is as long as its shape says, what was written is read, and what was read
--- is written. The laws of the rows (Rows.antt) stand on these. Assumes nothing.
+-- is written. The laws of the rows (Rows.antt) stand on these.
 use Prim.Native.Nat.{ℕ, _+_, _%_, _<_, _≤_}
 use mathlib.Core.Path.{_≡_, refl, sym, ap, _∙_}
 use mathlib.Core.Bool.{Bool, true, false, false≢true, cond}

@@ -1,5 +1,4 @@
 -- What is claimed of reading and writing together: what was written reads back, and what was read writes back.
--- Assumes nothing.
 use Prim.Native.Nat.{ℕ, _+_, _<_}
 use mathlib.Core.Path.{_≡_}
 use mathlib.Core.List.{List}

@@ -1,5 +1,5 @@
 -- The send command of document 01's listing, as a command and as its 42 bytes; and the same numbers as command 25, in hundredths. Read, each
--- keeps its unit, and is written back as the command that it was read as. Assumes nothing.
+-- keeps its unit, and is written back as the command that it was read as.
 use Prim.Native.Nat.{ℕ}
 use mathlib.Core.Path.{_≡_}
 use mathlib.Core.List.{List, [], _∷_, _++_}

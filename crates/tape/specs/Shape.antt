@@ -1,4 +1,4 @@
--- The shapes of a command: what follows its command byte. A shape has the width, and how operands are written and read. Assumes nothing.
+-- The shapes of a command: what follows its command byte. A shape has the width, and how operands are written and read.
 use Prim.Native.Nat.{ℕ, _+_}
 use mathlib.Core.Bool.{Bool, true, false, cond}
 use mathlib.Core.List.{List, [], _∷_, _++_}

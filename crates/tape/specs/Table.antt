@@ -1,6 +1,5 @@
 -- The commands of the tape: the table "Command tape" of document 01, and those of document 02. A command is a row: its command byte, its
 -- shape, and the action that its operands make. The inverse, the command byte and the operands of an action, is given once beside it.
--- Assumes nothing.
 --
 -- What a new command of a known shape costs: here its row and its line of `partsOf`; in the code the variant of `Action` and a line each of
 -- `row_of` and `parts_of`; in proofs/, where all is computed, a line each in `row_of`, `parts_of` and `made` (CommandTable.antt).

@@ -1,6 +1,6 @@
 -- What reading and writing a command answers, first refusal first, and what writing leaves in the buffer: document 01,
 -- "Read a command" and "Write a command". The refusals are 22 UnknownCommand, 23 CommandCut, 24 PlaceBeyondEnd and
--- 26 NoRoomToWrite. Assumes nothing.
+-- 26 NoRoomToWrite.
 use Prim.Native.Nat.{ℕ, _+_, _-_}
 use mathlib.Core.Bool.{cond}
 use mathlib.Core.List.{List}

@@ -1,5 +1,5 @@
 -- The calls "receive" and "send" on a channel of a sound started ring: each refusal by the tests that the code makes, and what an accepted
--- call leaves in memory. That the message finds room in its line follows from the soundness of the ring after the call. Assumes nothing.
+-- call leaves in memory. That the message finds room in its line follows from the soundness of the ring after the call.
 use Prim.Native.Nat.{ℕ, _+_, _<_}
 use mathlib.Core.Path.{_≡_, refl, sym, ap, subst, _∙_}
 use mathlib.Core.Logic.{_≢_}

@@ -1,5 +1,5 @@
 -- The call "withdraw" on a channel of a sound started ring: each refusal by the tests that the code makes, and what an accepted call leaves
--- in memory. Assumes nothing.
+-- in memory.
 use Prim.Native.Nat.{ℕ, suc, _+_, _*_, _≤_, _<_}
 use mathlib.Core.Path.{_≡_, refl, sym, ap, _∙_}
 use mathlib.Core.Logic.{_≢_}

@@ -1,4 +1,4 @@
--- Laws of appending: a byte and a list that were stored are appended, and one append and then another is both at once. Assumes nothing.
+-- Laws of appending: a byte and a list that were stored are appended, and one append and then another is both at once.
 use Prim.Native.Nat.{ℕ, _+_, _≤_}
 use mathlib.Core.Path.{refl, sym, ap, _∙_}
 use mathlib.Core.List.{List, [], _∷_, _++_, append-assoc, append-nil}

@@ -1,5 +1,5 @@
 -- Laws of `decimal`: one digit, or the digits of n / 10 and then the last one. All else, the three statements of specs/ and the number of
--- digits, follows by induction over that. Assumes nothing.
+-- digits, follows by induction over that.
 use Prim.Native.Nat.{ℕ, zero, suc, _+_, _-_, _*_, _/_, _%_, _^_, _≤_, _<_}
 use mathlib.Core.Path.{_≡_}
 use mathlib.Core.Logic.{_≢_}

@@ -1,5 +1,5 @@
 -- What it means that bytes were appended to a lent text: what stands before the place where they begin is kept, and they follow it up to
--- the place where they end. Assumes nothing.
+-- the place where they end.
 use Prim.Native.Nat.{ℕ, _+_, _≤_}
 use mathlib.Core.Path.{_≡_}
 use mathlib.Core.List.{List, _++_}

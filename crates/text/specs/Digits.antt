@@ -1,6 +1,5 @@
 -- Numbers as the report prints them, in bytes of ASCII: decimal, two small hexadecimal digits, and decimal with a sign. Three statements
 -- pin `decimal` down: its digits read back are the number, each is a digit, and none leads with a needless 0.
--- Assumes nothing.
 use Prim.Native.Nat.{ℕ, zero, suc, _+_, _-_, _*_, _/_, _%_, _≤_, _<_}
 use mathlib.Core.Path.{_≡_}
 use mathlib.Core.Logic.{_≢_}

@@ -1,4 +1,4 @@
--- What a line is made of, in bytes: a number or a name after a space, and text laid over what stands in a buffer. Assumes nothing.
+-- What a line is made of, in bytes: a number or a name after a space, and text laid over what stands in a buffer.
 use Prim.Native.Nat.{ℕ, _+_}
 use mathlib.Core.List.{List, [], _∷_, _++_}
 use lib.ListN.{length, take, drop}

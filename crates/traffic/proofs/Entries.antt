@@ -1,5 +1,5 @@
 -- The call "enter" at a node of a sound started ring: each refusal by the tests that the code makes, and what an accepted entry leaves in
--- memory. Assumes nothing.
+-- memory.
 use Prim.Native.Nat.{ℕ, _*_, _≤_, _<_}
 use mathlib.Core.Path.{_≡_, sym, ap, _∙_}
 use mathlib.Core.Logic.{_≢_}

@@ -1,5 +1,5 @@
 -- The call "move" at a node of a sound started ring. The first cell of the buffer is a message under way on a channel of the ring; each
--- refusal and each of the three ways it goes (taken, delivered, passed on) by the tests that the code makes. Assumes nothing.
+-- refusal and each of the three ways it goes (taken, delivered, passed on) by the tests that the code makes.
 use Prim.Native.Nat.{ℕ, suc, _+_, _-_, _*_, _≤_, _<_}
 use mathlib.Core.Path.{_≡_, refl, sym, ap, subst, _∙_}
 use mathlib.Core.Logic.{_≢_}

@@ -1,5 +1,5 @@
 -- Each change of a ring in memory (specs/Flat) is the change of the ring that it holds: laid out before and after, the two agree. A number
--- that is stored is the number of the new node or channel, a row that is rewritten is its row. Assumes nothing.
+-- that is stored is the number of the new node or channel, a row that is rewritten is its row.
 use Prim.Native.Nat.{ℕ, suc, _+_, _-_, _*_, _≤_, _<_}
 use mathlib.Core.Path.{_≡_, refl, sym, ap, _∙_}
 use mathlib.Core.Bool.{Bool, true, false, cond, _&&_, _||_}

@@ -1,5 +1,5 @@
 -- A channel in a line, found by the cell that holds its number and one more: where it stands first, the line splits there, and without the
--- channel it is the two parts; where no cell holds it, it is not in the line. Assumes nothing.
+-- channel it is the two parts; where no cell holds it, it is not in the line.
 use Prim.Native.Nat.{ℕ, zero, suc, _+_, _<_}
 use mathlib.Core.Path.{_≡_, refl, ap}
 use mathlib.Core.Logic.{_≢_}

@@ -1,6 +1,6 @@
 -- A message joins a line after a change of its channel: a request, and a response with the record that it carries; and a request is taken
 -- back out of its line. The line has room for it,
--- because the ring after the call is sound and so fits its rows. Assumes nothing.
+-- because the ring after the call is sound and so fits its rows.
 use Prim.Native.Nat.{ℕ, _+_, _<_}
 use mathlib.Core.Path.{_≡_, refl, ap, subst, _∙_}
 use mathlib.Core.List.{List, [], _∷_, _++_}

@@ -1,6 +1,6 @@
 -- What every call opens with. The opening is judged by the numbers of the head; on a sound ring these tests are the first ones of the call
 -- itself, so a refused opening is the call's refusal, and one that passed says where the call stands. Then how a call in memory is a call on the
--- ring that it holds, and what the code's answer says of it. Assumes nothing.
+-- ring that it holds, and what the code's answer says of it.
 use Prim.Native.Nat.{ℕ, _<_}
 use mathlib.Core.Path.{_≡_, refl, sym, ap, _∙_}
 use mathlib.Core.Logic.{_≢_}

@@ -1,5 +1,5 @@
 -- What the code reads of a sound ring in memory is what the definitions read of the ring that it holds: nodes, channels, and the numbers
--- that stand for a phase, an offer, an empty queue. Assumes nothing.
+-- that stand for a phase, an offer, an empty queue.
 use Prim.Native.Nat.{ℕ, _≤_, _<_}
 use mathlib.Core.Path.{_≡_, refl}
 use mathlib.Core.Logic.{_≢_}

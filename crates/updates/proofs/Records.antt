@@ -1,4 +1,4 @@
--- Rows of records: a record is read off its own row, and to overwrite its bytes is to put another row. Assumes nothing.
+-- Rows of records: a record is read off its own row, and to overwrite its bytes is to put another row.
 use Prim.Native.Nat.{ℕ, zero, suc, _+_, _≤_}
 use mathlib.Core.Path.{_≡_, refl}
 use mathlib.Core.List.{List, [], _∷_}

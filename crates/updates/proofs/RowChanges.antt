@@ -1,5 +1,5 @@
 -- A row from which one cell is cut, cell by cell: each store copies the next cell, and the last is zero. The loop's invariant is that so
--- much of the new row stands already (`paste`). Assumes nothing.
+-- much of the new row stands already (`paste`).
 use Prim.Native.Nat.{ℕ, _+_, _-_, _*_, _≤_, _<_}
 use mathlib.Core.Path.{_≡_, sym, ap, _∙_}
 use mathlib.Core.List.{List, [], _∷_, _++_}

@@ -1,4 +1,4 @@
--- The two answers that most calls give, with the head of the ring. Assumes nothing.
+-- The two answers that most calls give, with the head of the ring.
 use Rattle.refusal.specs.declared.Refusal.{Refusal}
 use Rattle.network.specs.declared.Head.{Head}
 use Rattle.network.specs.declared.HeadStep.{HeadStep}

@@ -1,5 +1,5 @@
 -- The changes to a ring in memory that the calls are made of, on its numbers and rows. proofs/ shows each to be a change of the ring that
--- it holds. Assumes nothing.
+-- it holds.
 use Prim.Native.Nat.{ℕ, _+_, _-_, _*_}
 use mathlib.Core.Bool.{cond}
 use mathlib.Core.List.{List, [], _∷_, _++_}

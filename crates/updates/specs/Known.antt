@@ -1,4 +1,4 @@
--- What is known where a part of a call is made: the tests that were made before it. Assumes nothing.
+-- What is known where a part of a call is made: the tests that were made before it.
 use Prim.Native.Nat.{ℕ, _+_, _-_, _*_, _≤_, _<_}
 use mathlib.Core.Path.{_≡_}
 use mathlib.Core.Logic.{_≢_}

@@ -1,4 +1,4 @@
--- What every call opens with: the refusals of document 01 that come first, in their order, by what the call is about. Assumes nothing.
+-- What every call opens with: the refusals of document 01 that come first, in their order, by what the call is about.
 use Prim.Native.Nat.{ℕ}
 use mathlib.Core.Bool.{Bool, not}
 use lib.Dec.{ltb, eqb}

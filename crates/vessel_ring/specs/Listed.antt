@@ -1,4 +1,4 @@
--- The listing of a tape in a lent buffer. Assumes nothing.
+-- The listing of a tape in a lent buffer.
 use Prim.Native.Nat.{ℕ, _+_, _<_, _≤_}
 use mathlib.Core.Path.{_≡_}
 use mathlib.Core.List.{List, [], _++_}

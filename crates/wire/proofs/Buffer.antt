@@ -1,5 +1,5 @@
 -- Laws of a buffer that bytes are put into: a field writer is lent the part of the buffer from its field on, and what it says of
--- that part is said of the whole here; one field after another is both at once. Assumes nothing.
+-- that part is said of the whole here; one field after another is both at once.
 use Prim.Native.Nat.{ℕ, suc, _+_, _-_, _<_, _≤_}
 use mathlib.Core.Path.{_≡_, sym, ap, _∙_}
 use mathlib.Core.List.{List, [], _++_, append-assoc, append-nil}

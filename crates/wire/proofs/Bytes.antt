@@ -1,5 +1,5 @@
 -- Bytes stay bytes: a part of them, one list of them after another, and those that a number is written as.
--- A number that is read from a place and written again is the bytes there. Assumes nothing.
+-- A number that is read from a place and written again is the bytes there.
 use Prim.Native.Nat.{ℕ, zero, suc, _+_, _^_, _<_, _≤_}
 use mathlib.Core.Path.{_≡_}
 use mathlib.Core.List.{List, [], _∷_, _++_}

@@ -1,5 +1,4 @@
 -- A good record fits its bytes: each clause of "good" bounds a field. So a good record is read back as it was written.
--- Assumes nothing.
 use Prim.Native.Nat.{ℕ, zero, suc, _<_, _^_}
 use mathlib.Core.Path.{_≡_}
 use mathlib.Core.Bool.{Bool, true, and-eq-true-iff}

@@ -1,5 +1,5 @@
 -- Laws of numbers as bytes, over the count of bytes: what `little` writes `number` reads, and the other way, and both go
--- part by part. Two's complement likewise. Assumes nothing.
+-- part by part. Two's complement likewise.
 use Prim.Native.Nat.{ℕ, zero, suc, _+_, _-_, _*_, _/_, _%_, _^_, _<_, _≤_}
 use mathlib.Core.Path.{_≡_, refl, ap}
 use mathlib.Core.Bool.{Bool, true, false, cond}

@@ -1,5 +1,4 @@
 -- A record as bytes: what was written is read, and what was read is written; it takes as many bytes as it should, and all are bytes.
--- Assumes nothing.
 use Prim.Native.Nat.{_<_, _^_}
 use mathlib.Core.Path.{_≡_, refl, ap}
 use mathlib.Core.List.{_++_}

@@ -1,5 +1,5 @@
 -- Two's complement on the machine, as `to_bits` and `from_bits` have it: a number below 0 is 65535 less its magnitude, and bits in the
--- upper half are read back so. Assumes nothing.
+-- upper half are read back so.
 use Prim.Native.Nat.{ℕ, _-_, _<_, _≤_}
 use mathlib.Core.Path.{_≡_, ap, _∙_}
 use native.Mathlib.Omega.{arith}

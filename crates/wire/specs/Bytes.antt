@@ -1,5 +1,4 @@
 -- Numbers as bytes, low byte first; signed numbers as 16 bits in two's complement; and bytes put into a buffer.
--- Assumes nothing.
 use Prim.Native.Nat.{ℕ, zero, suc, _+_, _-_, _*_, _/_, _%_, _<_}
 use mathlib.Core.Path.{_≡_}
 use mathlib.Core.Bool.{cond}

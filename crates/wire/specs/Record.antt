@@ -1,6 +1,6 @@
 -- A batch record as bytes, in the order of document 01's command tape: batch number 4, vessel 1, temperature 2, name length 1, name 32.
 -- The fields of a send are written alike, with the temperature in the command's unit. What was written is read, and what was read is
--- written. Assumes nothing.
+-- written.
 use Prim.Native.Nat.{ℕ, _<_, _≤_, _^_}
 use mathlib.Core.Path.{_≡_}
 use mathlib.Core.List.{List, _++_}

@@ -1,5 +1,4 @@
 -- `batch::all_zero` meets its contract. The invariant: all cells are zero exactly when those passed were and those to come are.
--- Assumes nothing.
 use Prim.Native.Nat.{_≤_, _-_}
 use mathlib.Core.Path.{_≡_, refl, sym, ap, _∙_}
 use mathlib.Core.Bool.{_&&_}

@@ -1,4 +1,4 @@
--- `batch::between` meets its contract: each test settles a part of it. Assumes nothing.
+-- `batch::between` meets its contract: each test settles a part of it.
 use mathlib.Core.Path.{_≡_, sym, ap, _∙_}
 use mathlib.Core.Bool.{Bool, not, _&&_}
 use lib.IntN.{ℤ}

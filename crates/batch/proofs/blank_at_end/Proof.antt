@@ -1,4 +1,4 @@
--- `batch::blank_at_end` meets its contract by its tests. Assumes nothing.
+-- `batch::blank_at_end` meets its contract by its tests.
 use mathlib.Core.Path.{refl}
 use borrow.Author.Needs.{needs}
 use borrow.Author.Tests.{eq-eqb, ne-eqb}

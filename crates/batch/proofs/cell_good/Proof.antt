@@ -1,4 +1,4 @@
--- `batch::cell_good` meets its contract: each test settles a part of what a cell in its place is. Assumes nothing.
+-- `batch::cell_good` meets its contract: each test settles a part of what a cell in its place is.
 use native.Mathlib.Omega.{arith}
 use borrow.Author.Tests.{not-true, not-false, le-leb, lt-leb}
 use Rattle.batch.specs.Good.{firstCharacter}

@@ -1,4 +1,4 @@
--- `batch::fields_good` meets its contract: a record is good exactly when its verdict is. Assumes nothing.
+-- `batch::fields_good` meets its contract: a record is good exactly when its verdict is.
 use mathlib.Core.Path.{_≡_, sym, ap, _∙_}
 use mir.Syntax.{w16}
 use mir.Facts.{toZ-ofZ}

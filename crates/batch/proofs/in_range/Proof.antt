@@ -1,4 +1,4 @@
--- `batch::in_range` meets its contract: the test is of the number that the bits hold. Assumes nothing.
+-- `batch::in_range` meets its contract: the test is of the number that the bits hold.
 use mathlib.Core.Path.{ap, _∙_}
 use mir.Syntax.{w16}
 use mir.Facts.{toZ-ofZ}

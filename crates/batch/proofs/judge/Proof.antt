@@ -1,5 +1,5 @@
 -- `batch::judge` meets its contract: the verdict on the record's fields. A signed number is passed on as bits, and what is read back from
--- them is the number. Assumes nothing.
+-- them is the number.
 use mathlib.Core.Path.{ap}
 use mir.Syntax.{w16}
 use mir.Facts.{toZ-ofZ}

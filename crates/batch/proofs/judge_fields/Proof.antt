@@ -1,5 +1,4 @@
 -- `batch::judge_fields` meets its contract: what the tests passed so far say of the record's clauses picks the verdict.
--- Assumes nothing.
 use mathlib.Core.Path.{_≡_, sym, ap, _∙_}
 use mathlib.Core.Bool.{true}
 use mir.Syntax.{w16}

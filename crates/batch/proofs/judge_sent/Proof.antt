@@ -1,4 +1,4 @@
--- `batch::judge_sent` meets its contract: the verdict on the record, and where that is good, the ends of its name. Assumes nothing.
+-- `batch::judge_sent` meets its contract: the verdict on the record, and where that is good, the ends of its name.
 use mathlib.Core.Path.{_≡_, sym, ap, _∙_}
 use borrow.Author.Needs.{needs}
 use borrow.Author.Tests.{leb-true}

@@ -1,5 +1,5 @@
 -- `batch::name_cells_good` meets its contract. The invariant: the whole name is good exactly when no cell passed was wrong and the cells
--- from `i` on are good; each turn settles cell `i`, whose place is read off the table. Assumes nothing.
+-- from `i` on are good; each turn settles cell `i`, whose place is read off the table.
 use mathlib.Core.Path.{_≡_, refl, sym, ap, _∙_}
 use mathlib.Core.Bool.{Bool, cond, _&&_}
 use mathlib.Core.Logic.{⊎-elim}

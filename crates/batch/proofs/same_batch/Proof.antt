@@ -1,4 +1,4 @@
--- `batch::same_batch` meets its contract: the test is the definition. Assumes nothing.
+-- `batch::same_batch` meets its contract: the test is the definition.
 use borrow.Author.Needs.{needs}
 use Rattle.batch.specs.Same.{sameBatch}
 use Rattle.batch.proofs.same_batch.Statement.{statement}

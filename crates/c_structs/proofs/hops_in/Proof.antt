@@ -1,4 +1,4 @@
--- `c_structs::hops_in` meets its contract. Assumes nothing.
+-- `c_structs::hops_in` meets its contract.
 use borrow.Author.Needs.{needs}
 use Rattle.c_structs.proofs.hops_in.Statement.{statement}
 use Rattle.c_structs.proofs.hops_in.Tie as tie

@@ -1,4 +1,4 @@
--- `c_structs::numbers_in` meets its contract: each answer has its numbers. Assumes nothing.
+-- `c_structs::numbers_in` meets its contract: each answer has its numbers.
 use mathlib.Core.Path.{_∙_}
 use borrow.Author.Needs.{needs}
 use Rattle.c_structs.proofs.numbers_in.Statement.{statement}

@@ -1,4 +1,4 @@
--- `c_structs::waiting_in` meets its contract: the tasks are the ones of the set. Assumes nothing.
+-- `c_structs::waiting_in` meets its contract: the tasks are the ones of the set.
 use borrow.Author.Needs.{needs}
 use Rattle.c_structs.proofs.waiting_in.Statement.{statement}
 use Rattle.c_structs.proofs.waiting_in.Tie as tie

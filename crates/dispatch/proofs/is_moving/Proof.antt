@@ -1,4 +1,4 @@
--- `dispatch::is_moving` meets its contract by its two tests. Assumes nothing.
+-- `dispatch::is_moving` meets its contract by its two tests.
 use mathlib.Core.Path.{refl}
 use borrow.Author.Tests.{eq-eqb, ne-eqb}
 use Rattle.dispatch.proofs.is_moving.Statement.{statement}

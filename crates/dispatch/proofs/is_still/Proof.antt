@@ -1,4 +1,4 @@
--- `dispatch::is_still` meets its contract: the loop is left where a message is on the ring, or when all channels were asked. Assumes nothing.
+-- `dispatch::is_still` meets its contract: the loop is left where a message is on the ring, or when all channels were asked.
 use Prim.Native.Nat.{_-_, _≤_}
 use mathlib.Core.Path.{_≡_, refl, sym, subst, _∙_}
 use mathlib.Core.Bool.{true}

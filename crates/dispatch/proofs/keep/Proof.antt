@@ -1,4 +1,4 @@
--- `dispatch::keep` meets its contract: a delivery is written behind the others, any other reply leaves the log. Assumes nothing.
+-- `dispatch::keep` meets its contract: a delivery is written behind the others, any other reply leaves the log.
 use Prim.Native.Nat.{_<_}
 use mathlib.Core.Path.{_≡_, refl}
 use mathlib.Core.List.{[], _∷_}

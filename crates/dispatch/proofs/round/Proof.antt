@@ -1,4 +1,4 @@
--- `dispatch::round` meets its contract: the loop visits one node after the other. Assumes nothing.
+-- `dispatch::round` meets its contract: the loop visits one node after the other.
 use Prim.Native.Nat.{_-_}
 use native.Mathlib.Omega.{arith}
 use Rattle.network.specs.Layout.{ringIn}

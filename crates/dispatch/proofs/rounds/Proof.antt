@@ -1,4 +1,4 @@
--- `dispatch::rounds` meets its contract: what is left of the rounds comes to the same end from every turn of the loop. Assumes nothing.
+-- `dispatch::rounds` meets its contract: what is left of the rounds comes to the same end from every turn of the loop.
 use Prim.Native.Nat.{_-_}
 use mathlib.Core.Path.{_≡_, refl, sym, _∙_}
 use mathlib.Core.Bool.{false}

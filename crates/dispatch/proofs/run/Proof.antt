@@ -1,4 +1,4 @@
--- `dispatch::run` meets its contract: a refused opening is the call's refusal, and an open one is what `rounds` asks. Assumes nothing.
+-- `dispatch::run` meets its contract: a refused opening is the call's refusal, and an open one is what `rounds` asks.
 use borrow.Author.Needs.{needs}
 use Rattle.updates.proofs.Openings.{node-open}
 use Rattle.dispatch.proofs.Going.{can-begin}

@@ -1,4 +1,4 @@
--- `dispatch::visit` meets its contract: an entry, and then a move on the ring that it left. Assumes nothing.
+-- `dispatch::visit` meets its contract: an entry, and then a move on the ring that it left.
 use Rattle.network.specs.declared.Step.{Step}
 use Rattle.network.specs.Layout.{stepIn}
 use Rattle.dispatch.specs.Log.{Log, logOf}

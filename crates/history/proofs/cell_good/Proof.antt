@@ -1,5 +1,4 @@
 -- `history::cell_good` meets its contract. A signed number is passed on as bits, and what is read back from them is the number.
--- Assumes nothing.
 use mathlib.Core.Path.{ap, _∙_}
 use mir.Syntax.{w16}
 use mir.Facts.{toZ-ofZ}

@@ -1,5 +1,4 @@
 -- `history::cells_good` meets its contract. The invariant: all cells are good exactly when those passed are and those from `i` on.
--- Assumes nothing.
 use mathlib.Core.Path.{_≡_, refl, sym, ap, _∙_}
 use mathlib.Core.Bool.{Bool, cond, _&&_}
 use mathlib.Core.Logic.{⊎-elim}

@@ -1,5 +1,4 @@
 -- `history::chosen` meets its contract. A signed number is passed on as bits, and what is read back from them is the number.
--- Assumes nothing.
 use mir.Syntax.{w16}
 use mir.Facts.{toZ-ofZ}
 use Rattle.history.proofs.chosen.Statement.{statement}

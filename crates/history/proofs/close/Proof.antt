@@ -1,5 +1,5 @@
 -- `history::close` meets its contract: it is a call on a lent slice (Noting.antt of `lent`) over `begin`, `seen` and `to_close`, and what it
--- does is what the definition says (Passing.antt). Assumes nothing.
+-- does is what the definition says (Passing.antt).
 use mathlib.Core.List.{[], _∷_}
 use base.Logic.{emp}
 use contract.Monad.{factI}

@@ -1,4 +1,4 @@
--- `history::copied` meets its contract. The invariant: the first `i` cells are copied, the rest are zeros. Assumes nothing.
+-- `history::copied` meets its contract. The invariant: the first `i` cells are copied, the rest are zeros.
 use mathlib.Core.Path.{_≡_, refl, sym, ap, _∙_}
 use mathlib.Core.List.{List}
 use Prim.Native.Nat.{ℕ, _+_, _-_, _<_, _≤_}

@@ -1,4 +1,4 @@
--- `history::count_good` meets its contract: each test settles a part. Assumes nothing.
+-- `history::count_good` meets its contract: each test settles a part.
 use native.Mathlib.Omega.{arith}
 use borrow.Author.Tests.{eq-eqb, ne-eqb, le-leb, lt-leb}
 use Rattle.history.proofs.count_good.Statement.{statement}

@@ -1,5 +1,4 @@
 -- `history::figures_of` meets its contract: it is a question about a lent slice (Asking.antt of `lent`) over `begin`, `seen` and `to_tell`.
--- Assumes nothing.
 use mathlib.Core.List.{[], _∷_}
 use base.Logic.{emp}
 use contract.Monad.{factI}

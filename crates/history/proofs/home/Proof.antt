@@ -1,4 +1,4 @@
--- `history::home` meets its contract. Assumes nothing.
+-- `history::home` meets its contract.
 use mathlib.Core.Path.{_∙_}
 use native.Mathlib.Omega.{arith}
 use lib.ListN.{length}

@@ -1,4 +1,4 @@
--- `history::joined` meets its contract: with fewer than 24 readings all stay, else the oldest makes way. Assumes nothing.
+-- `history::joined` meets its contract: with fewer than 24 readings all stay, else the oldest makes way.
 use mathlib.Core.Path.{_≡_, sym, ap, _∙_}
 use mathlib.Core.List.{[], _∷_, _++_}
 use Prim.Native.Nat.{ℕ}

@@ -1,4 +1,4 @@
--- `history::kept` meets its contract. Assumes nothing.
+-- `history::kept` meets its contract.
 use borrow.Author.Tests.{eq-eqb, ne-eqb}
 use Rattle.history.proofs.kept.Statement.{statement}
 use Rattle.history.proofs.kept.Tie as tie

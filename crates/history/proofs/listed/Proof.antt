@@ -1,4 +1,4 @@
--- `history::listed` meets its contract: a place that the row does not have is not written. Assumes nothing.
+-- `history::listed` meets its contract: a place that the row does not have is not written.
 use mathlib.Core.Path.{sym}
 use native.Mathlib.Omega.{arith}
 use borrow.Author.Needs.{needs}

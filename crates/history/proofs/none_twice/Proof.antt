@@ -1,4 +1,4 @@
--- `history::none_twice` meets its contract. The invariant: no batch of the rows passed stands again, so the rest decides. Assumes nothing.
+-- `history::none_twice` meets its contract. The invariant: no batch of the rows passed stands again, so the rest decides.
 use mathlib.Core.Path.{_≡_, refl, sym, _∙_}
 use Prim.Native.Nat.{_+_, _-_, _<_, _≤_}
 use native.Mathlib.Omega.{arith}

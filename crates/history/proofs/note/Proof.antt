@@ -1,5 +1,5 @@
 -- `history::note` meets its contract: it is a call on a lent slice (Noting.antt of `lent`) over `begin_for`, `seen` and `to_note`, and what it
--- does is what the definition says (Passing.antt). Assumes nothing.
+-- does is what the definition says (Passing.antt).
 use mathlib.Core.List.{[], _∷_}
 use base.Logic.{emp}
 use contract.Monad.{factI}

@@ -1,4 +1,4 @@
--- `history::note_good` meets its contract. Assumes nothing.
+-- `history::note_good` meets its contract.
 use mathlib.Core.Path.{sym, ap, _∙_}
 use mir.Syntax.{w16}
 use mir.Facts.{toZ-ofZ}

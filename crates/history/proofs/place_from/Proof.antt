@@ -1,4 +1,4 @@
--- `history::place_from` meets its contract. The invariant: the number's place is the one that the search from `i` on finds. Assumes nothing.
+-- `history::place_from` meets its contract. The invariant: the number's place is the one that the search from `i` on finds.
 use mathlib.Core.Path.{_≡_, refl, sym, _∙_}
 use Prim.Native.Nat.{_-_, _≤_}
 use native.Mathlib.Omega.{arith}

@@ -1,4 +1,4 @@
--- `history::row_figures` meets its contract: a row has at most 24 readings, whatever its count says. Assumes nothing.
+-- `history::row_figures` meets its contract: a row has at most 24 readings, whatever its count says.
 use mathlib.Core.Path.{sym, ap, _∙_}
 use native.Mathlib.Omega.{arith}
 use lib.Seq.{take-all}

@@ -1,4 +1,4 @@
--- `history::row_sound` meets its contract. Assumes nothing.
+-- `history::row_sound` meets its contract.
 use mathlib.Core.Path.{_≡_, sym, _∙_}
 use mathlib.Core.Bool.{Bool, true, false}
 use borrow.Author.Needs.{needs}

@@ -1,4 +1,4 @@
--- `history::row_with` meets its contract. Assumes nothing.
+-- `history::row_with` meets its contract.
 use mathlib.Core.Path.{_≡_, ap, _∙_}
 use native.Mathlib.Omega.{arith}
 use mathlib.Core.List.{[], _∷_, _++_}

@@ -1,4 +1,4 @@
--- `history::rows_to` meets its contract. Assumes nothing.
+-- `history::rows_to` meets its contract.
 use native.Mathlib.Numerals.{add-one}
 use native.Mathlib.Omega.{arith}
 use borrow.Author.Tests.{lt-ltb, le-ltb}

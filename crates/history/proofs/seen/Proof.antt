@@ -1,4 +1,4 @@
--- `history::seen` meets its contract: each part of what is kept is a call's. Assumes nothing.
+-- `history::seen` meets its contract: each part of what is kept is a call's.
 use borrow.Author.Needs.{needs}
 use Rattle.history.proofs.seen.Statement.{statement}
 use Rattle.history.proofs.seen.Tie as tie

@@ -1,4 +1,4 @@
--- `history::sound` meets its contract: each test settles a part. Assumes nothing.
+-- `history::sound` meets its contract: each test settles a part.
 use borrow.Author.Needs.{needs}
 use borrow.Author.Tests.{eq-eqb, ne-eqb, not-true, not-false}
 use Rattle.history.proofs.sound.Statement.{statement}

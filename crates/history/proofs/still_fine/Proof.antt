@@ -1,4 +1,4 @@
--- `history::still_fine` meets its contract. Assumes nothing.
+-- `history::still_fine` meets its contract.
 use borrow.Author.Needs.{needs}
 use Rattle.history.proofs.still_fine.Statement.{statement}
 use Rattle.history.proofs.still_fine.Tie as tie

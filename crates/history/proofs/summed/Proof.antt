@@ -1,5 +1,5 @@
 -- `history::summed` meets its contract. The invariant: the figures of the readings are those of what was found so far and the readings from
--- `i` on; the sum of i readings of 16 bits is below i times 2 ^ 15. Assumes nothing.
+-- `i` on; the sum of i readings of 16 bits is below i times 2 ^ 15.
 use mathlib.Core.Path.{_≡_, sym, ap, _∙_}
 use mathlib.Core.Bool.{cond}
 use Prim.Native.Nat.{_+_, _-_, _*_, _^_, _<_, _≤_}

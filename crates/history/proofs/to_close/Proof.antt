@@ -1,4 +1,4 @@
--- `history::to_close` meets its contract. Assumes nothing.
+-- `history::to_close` meets its contract.
 use mathlib.Core.Path.{sym, ap, _∙_}
 use native.Mathlib.Nat.{zero-add}
 use borrow.Author.Needs.{needs}

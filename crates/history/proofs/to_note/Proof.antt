@@ -1,4 +1,4 @@
--- `history::to_note` meets its contract. Assumes nothing.
+-- `history::to_note` meets its contract.
 use mathlib.Core.Path.{_≡_, sym, _∙_}
 use mathlib.Core.Bool.{true}
 use mir.Syntax.{w16}

@@ -1,4 +1,4 @@
--- `history::to_tell` meets its contract. Assumes nothing.
+-- `history::to_tell` meets its contract.
 use mathlib.Core.Path.{sym}
 use borrow.Author.Needs.{needs}
 use borrow.Author.Tests.{not-true, not-false}

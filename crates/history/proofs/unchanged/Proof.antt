@@ -1,4 +1,4 @@
--- `history::unchanged` meets its contract. Assumes nothing.
+-- `history::unchanged` meets its contract.
 use borrow.Author.Needs.{needs}
 use Rattle.history.proofs.unchanged.Statement.{statement}
 use Rattle.history.proofs.unchanged.Tie as tie

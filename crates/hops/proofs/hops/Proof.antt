@@ -1,4 +1,4 @@
--- `hops::hops` meets its contract: where it tests and subtracts, the laws have the closed formula. Assumes nothing.
+-- `hops::hops` meets its contract: where it tests and subtracts, the laws have the closed formula.
 use mathlib.Core.Path.{sym}
 use native.Mathlib.Omega.{arith}
 use borrow.Author.Needs.{needs}

@@ -1,5 +1,4 @@
 -- `messages::all_right` meets its contract: the loop counts the messages that stand where they may not (proofs/Loops).
--- Assumes nothing.
 use Prim.Native.Nat.{ℕ, _-_}
 use mathlib.Core.List.{List}
 use native.Mathlib.Omega.{arith}

@@ -1,4 +1,4 @@
--- `messages::messages_fit` meets its contract: its tests are the parts of the statement. Assumes nothing.
+-- `messages::messages_fit` meets its contract: its tests are the parts of the statement.
 use borrow.Author.Needs.{needs}
 use borrow.Author.Tests.{not-true, not-false}
 use Rattle.messages.specs.RowPass.{markAll, Marked}

@@ -1,4 +1,4 @@
--- `messages::on_the_way` meets its contract: it compares the two ways in hops. Assumes nothing.
+-- `messages::on_the_way` meets its contract: it compares the two ways in hops.
 use borrow.Author.Needs.{needs}
 use lib.Dec.{leb}
 use Rattle.messages.specs.Messages.{onTheWay}

@@ -1,4 +1,4 @@
--- `messages::stands_right` meets its contract, by the phase and then by the place. Assumes nothing.
+-- `messages::stands_right` meets its contract, by the phase and then by the place.
 use Prim.Native.Nat.{ℕ, _-_, _≤_, _<_}
 use mathlib.Core.Path.{_≡_, sym, _∙_}
 use mathlib.Core.Bool.{Bool}

@@ -1,5 +1,5 @@
 -- Ground. The worked pairs of entries and moves (specs/Pairs), computed on the ring apart from its layout. They stand before all that is shown
--- of the calls, so that a wrong definition is told by its example. Assumes nothing.
+-- of the calls, so that a wrong definition is told by its example.
 use Prim.Native.Nat.{ℕ}
 use mathlib.Core.Path.{_≡_, refl, sym, ap, _∙_}
 use mathlib.Core.Logic.{⊎-elim, inr}

@@ -1,5 +1,5 @@
 -- Ground. The worked sends and the rings made by hand, computed on the ring apart from its layout. They stand before all that is shown of
--- the calls and of a sound ring, so that a wrong refusal is told by its row. Assumes nothing.
+-- the calls and of a sound ring, so that a wrong refusal is told by its row.
 use mathlib.Core.Path.{refl}
 use Rattle.batch.specs.Good.{blankAtEnd, blankEnds, sendVerdict, verdictOf, goodRecord, batchGood, tempGood, nameLengthGood, nameGood, widthsGood, nameCellsGood}
 use Rattle.hops.specs.Hops.{hops, next}

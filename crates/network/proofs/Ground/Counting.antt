@@ -1,5 +1,5 @@
 -- Ground. Laws of sums and counts. `sum-but` is the one that steps use: two tables that agree but at one place have sums that
--- differ by what stands there. Everything is stated with `+`, never with `-`. Assumes nothing.
+-- differ by what stands there. Everything is stated with `+`, never with `-`.
 use Prim.Native.Nat.{ℕ, zero, suc, _+_, _*_, _≤_, _<_}
 use mathlib.Core.Path.{_≡_, refl, sym, ap, _∙_}
 use mathlib.Core.Logic.{_≢_}

@@ -1,5 +1,5 @@
 -- Ground. The worked lists of deeds, computed: what is counted, and whether a request is withdrawn. They stand before all that is shown of
--- the count, so that a wrong count is told by its list. Assumes nothing.
+-- the count, so that a wrong count is told by its list.
 use mathlib.Core.Path.{refl}
 use Rattle.network.specs.Withdrawals.{DeedsCounted, PairWithdrawn}
 

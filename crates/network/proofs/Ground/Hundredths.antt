@@ -1,5 +1,5 @@
 -- Ground. The worked temperatures and deliveries in both units, computed on the ring apart from its layout, before all that is shown of the
--- calls. Assumes nothing.
+-- calls.
 use mathlib.Core.Path.{refl}
 use Rattle.batch.specs.Good.{blankAtEnd, blankEnds, sendVerdict, verdictOf, batchGood, tempGood, nameLengthGood, nameGood, widthsGood, nameCellsGood}
 use Rattle.hops.specs.Hops.{next}

@@ -1,5 +1,5 @@
 -- Ground. Tests joined by "and" and by "only with", and tests of a phase or an offer: what they say, and back. Each of the tests that
--- `sound` is made of has two, three or six clauses, so it is read by one law. Assumes nothing.
+-- `sound` is made of has two, three or six clauses, so it is read by one law.
 use mathlib.Core.Path.{_≡_, refl}
 use mathlib.Core.Logic.{_↔_}
 use mathlib.Core.Bool.{Bool, true, false, false≢true, _&&_, _||_, not}

@@ -1,5 +1,5 @@
 -- Ground. Node and channel numbers as plain ones: laws of the numbers of a buffer or a line (`numbersOf`), and of the end that a message
--- comes from. Assumes nothing.
+-- comes from.
 use Prim.Native.Nat.{ℕ}
 use mathlib.Core.Path.{_≡_, refl, ap}
 use mathlib.Core.Bool.{Bool, true, false, cond}

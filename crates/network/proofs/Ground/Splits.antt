@@ -1,5 +1,4 @@
--- Ground. Case splits that keep the equation: on a test and on two numbers (numbers), on a list, on an offer, on a phase. Assumes
--- nothing.
+-- Ground. Case splits that keep the equation: on a test and on two numbers (numbers), on a list, on an offer, on a phase.
 use Prim.Native.Nat.{ℕ, _≤_, _<_}
 use mathlib.Core.Path.{_≡_, refl}
 use mathlib.Core.Logic.{_≢_}

@@ -1,5 +1,5 @@
 -- Ground. What a test over the numbers below a bound, or over a list, says of each of them, and back. A number stands in a list where its
--- count is above 0. Assumes nothing.
+-- count is above 0.
 use Prim.Native.Nat.{ℕ, zero, suc, _≤_, _<_}
 use mathlib.Core.Path.{_≡_, refl, subst}
 use mathlib.Core.Logic.{_↔_}

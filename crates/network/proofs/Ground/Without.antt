@@ -1,5 +1,5 @@
 -- Ground. A list of channels without one that stands in it: it weighs less by that one, is shorter by one, and leaves the others in their
--- order. Assumes nothing.
+-- order.
 use Prim.Native.Nat.{ℕ, suc, _+_, _≤_, _<_}
 use mathlib.Core.Path.{_≡_, refl, ap, _∙_}
 use mathlib.Core.Logic.{_≢_}

@@ -1,5 +1,5 @@
 -- Lists. The calls on a sound started ring, one by one: an accepted receive, send, entry, move or withdrawal is a step of the theory, and
--- leaves the sizes and ends as they are. Each law follows the order of a call's refusals and says nothing where one applies. Assumes nothing.
+-- leaves the sizes and ends as they are. Each law follows the order of a call's refusals and says nothing where one applies.
 use Prim.Native.Nat.{ℕ, _≤_, _<_}
 use mathlib.Core.Path.{_≡_, refl, sym, ap, subst, _∙_}
 use mathlib.Core.Logic.{_≢_, ⊎-elim}

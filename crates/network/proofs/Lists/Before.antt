@@ -1,5 +1,5 @@
 -- Lists. A ring that has not started: it is sound exactly when it is idle, that is, when every node is empty and every channel rests. So
--- what the ring is built by keeps it sound, and nothing is taken in or handed out before the start. Assumes nothing.
+-- what the ring is built by keeps it sound, and nothing is taken in or handed out before the start.
 use Prim.Native.Nat.{ℕ, _+_, _≤_, _<_}
 use mathlib.Core.Path.{_≡_, refl, sym, ap, subst, _∙_}
 use mathlib.Core.Logic.{_↔_}

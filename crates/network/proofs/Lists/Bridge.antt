@@ -1,6 +1,5 @@
 -- Lists. From tables to the ring: every call keeps a sound ring sound, and an entry or a move that can be made on the tables is accepted
--- on the ring. With `call-did` (Accepted) and `call-before` (Before) this is all that theorems about runs need of the calls. Assumes
--- nothing.
+-- on the ring. With `call-did` (Accepted) and `call-before` (Before) this is all that theorems about runs need of the calls.
 use Prim.Native.Nat.{ℕ, _<_}
 use mathlib.Core.Path.{_≡_, refl, sym, ap, subst}
 use mathlib.Core.Logic.{_≢_}

@@ -1,6 +1,6 @@
 -- Lists. The test `sound` clause by clause: what it says as facts, and that the facts pass it. Facts about nodes and channels are in the
 -- words of the theory's `Sound`, so a started ring passes the test exactly when its tables are `Sound` and its sizes are within the
--- limits. Assumes nothing.
+-- limits.
 use Prim.Native.Nat.{ℕ, _≤_, _<_}
 use mathlib.Core.Path.{_≡_}
 use mathlib.Core.Logic.{_↔_}

@@ -1,6 +1,6 @@
 -- Lists. On a sound started ring, entries and moves that touch no common node commute (specs/Commute). Each is read as a plan: what it will
 -- do goes by the nodes that it touches and by the channel at the head of its buffer, and doing it changes those alone. So the other call
--- leaves the plan as it was, and the two changes are at different places. Assumes nothing.
+-- leaves the plan as it was, and the two changes are at different places.
 use Prim.Native.Nat.{ℕ, zero, suc, _+_, _≤_, _<_}
 use mathlib.Core.Path.{_≡_, refl, sym, ap, subst, _∙_}
 use mathlib.Core.Logic.{_≢_, inl, inr}

@@ -1,6 +1,5 @@
 -- Lists. How laws about calls are stated: `After` says what holds wherever a call is accepted, and goes by the order of the call's
--- refusals, so that a law sees only the rings that pass them all. `Silent` is a call that the account of a run does not see. Assumes
--- nothing.
+-- refusals, so that a law sees only the rings that pass them all. `Silent` is a call that the account of a run does not see.
 use mathlib.Core.Path.{_≡_, refl}
 use mathlib.Core.Bool.{Bool, true, false}
 use mathlib.Core.List.{[]}

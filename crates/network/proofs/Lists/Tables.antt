@@ -1,6 +1,6 @@
 -- Lists. A ring's lists seen as the theory's tables: `netOf` is what never changes after the start, `stateOf` what a step changes. A store
 -- to a list is an update of its tables (`set-table`, `set-alike`), so each change of a ring that a call is made of is one of the theory's
--- changes, and leaves `netOf` as it is. Assumes nothing.
+-- changes, and leaves `netOf` as it is.
 use Prim.Native.Nat.{ℕ, _<_}
 use mathlib.Core.Path.{_≡_, refl, sym, ap, fun-ext, subst, _∙_}
 use mathlib.Core.Bool.{Bool, false, _&&_, _||_}

@@ -1,6 +1,5 @@
 -- Lists. An entry or a move that is tried on a sound started ring, accepted or refused: the ring stays sound and started with the same
 -- plan, and no message is added to it; a delivery takes its own off, and its record is good. If it is accepted, less is left to do.
--- Assumes nothing.
 use Prim.Native.Nat.{ℕ, _+_, _≤_}
 use mathlib.Core.Path.{_≡_, refl, ap}
 use mathlib.Core.Bool.{true, false≢true}

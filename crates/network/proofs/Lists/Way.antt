@@ -1,5 +1,5 @@
 -- Lists. The nodes on the way from an entry to a target are those no further from the target than the entry is: each node that the way
--- leaves is a hop further than the next, and no two nodes are equally far. Assumes nothing.
+-- leaves is a hop further than the next, and no two nodes are equally far.
 use Prim.Native.Nat.{ℕ, zero, suc, _+_, _≤_, _<_}
 use mathlib.Core.Path.{_≡_}
 use mathlib.Core.Logic.{_↔_, _≢_, ⊎-elim}

@@ -1,5 +1,5 @@
 -- Memory. Each change of a ring that the calls are made of, as it shows in memory: a number of the head is stored to, or a row is
--- rewritten, where the change shows, and what it leaves is left in memory too. Assumes nothing.
+-- rewritten, where the change shows, and what it leaves is left in memory too.
 use Prim.Native.Nat.{ℕ, _+_, _≤_, _<_}
 use mathlib.Core.Path.{_≡_, refl, sym, ap, _∙_}
 use mathlib.Core.Bool.{Bool, false}

@@ -1,6 +1,6 @@
 -- Memory. The laws between a ring in memory and the ring that it holds (specs/Layout): a ring for which there is room is read off as it
 -- was laid out; a ring in memory that is laid out as it should be is what is laid out for the ring that it holds; and a sound ring has
--- room, since its records are good and no line holds a channel twice. Assumes nothing.
+-- room, since its records are good and no line holds a channel twice.
 use Prim.Native.Nat.{ℕ, _+_, _≤_, _<_}
 use mathlib.Core.Path.{_≡_, refl, sym, ap, subst, _∙_}
 use mathlib.Core.Logic.{_↔_}

@@ -1,5 +1,5 @@
 -- Memory. Laws of the lists that a layout is made of: numbers by number (`tabulate`), a list made as long as a row (`padded`), and rows of
--- any width one after the other (`row`, `rows`). `putRow` is what a function does that rewrites one row. Assumes nothing.
+-- any width one after the other (`row`, `rows`). `putRow` is what a function does that rewrites one row.
 use Prim.Native.Nat.{ℕ, zero, suc, pred, _+_, _*_, _-_, _≤_, _<_}
 use mathlib.Core.Path.{_≡_, refl, sym, ap, _∙_}
 use mathlib.Core.Logic.{_≢_}

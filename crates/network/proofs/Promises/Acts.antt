@@ -1,5 +1,5 @@
 -- Lists of acts are the single calls that they stand for (specs/Dispatch): runs and deliveries one after the other are those of the joined
--- lists, so the ring and the deliveries are the same. Assumes nothing.
+-- lists, so the ring and the deliveries are the same.
 use mathlib.Core.Path.{_≡_, refl, sym, ap, _∙_}
 use mathlib.Core.Bool.{Bool}
 use mathlib.Core.List.{List, [], _∷_, _++_, append-assoc, append-nil}

@@ -1,5 +1,5 @@
 -- A reply says what document 01 says that the call answers, and a returned step says what its reply says: by cases on the outcome and on
--- the answer. Assumes nothing.
+-- the answer.
 use mathlib.Core.Path.{_≡_, refl}
 use mathlib.Core.Bool.{false}
 use native.Mathlib.Omega.{arith}

@@ -1,5 +1,5 @@
 -- The worked sends and the rings made by hand, of the ring in memory, which answers as the ring apart from its layout does (Ground/BlankEnds);
--- a ring that holds a record from before, still sound and served; and from a fresh ring none comes out, since none goes in. Assumes nothing.
+-- a ring that holds a record from before, still sound and served; and from a fresh ring none comes out, since none goes in.
 use Prim.Native.Nat.{_<_}
 use mathlib.Core.Path.{_≡_, refl, sym, ap, subst, _∙_}
 use mathlib.Core.Bool.{Bool, true, false, not, _&&_, and-assoc}

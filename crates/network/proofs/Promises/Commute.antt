@@ -1,5 +1,5 @@
 -- Entries and moves that touch no common node commute (specs/Commute): of the ring in memory, on which the lists' own calls are laid out, and
--- so of code that meets the contracts; and the worked pairs (specs/Pairs), computed on the ring apart from its layout. Assumes nothing.
+-- so of code that meets the contracts; and the worked pairs (specs/Pairs), computed on the ring apart from its layout.
 use Prim.Native.Nat.{ℕ}
 use mathlib.Core.Path.{_≡_, refl, sym, ap, subst, _∙_}
 use mathlib.Core.Logic.{inl, inr}

@@ -1,5 +1,5 @@
 -- The worked rounds and acts, computed on the ring apart from its layout, and what a refused dispatcher call tells and stands for.
--- They stand before all that is shown of the dispatcher, so that a wrong one is told by its example. Assumes nothing.
+-- They stand before all that is shown of the dispatcher, so that a wrong one is told by its example.
 use mathlib.Core.Path.{refl}
 use mathlib.Core.Bool.{Bool, true}
 use Rattle.batch.specs.Good.{blankAtEnd, blankEnds, sendVerdict, verdictOf, batchGood, tempGood, nameLengthGood, nameGood, widthsGood, nameCellsGood}

@@ -1,6 +1,6 @@
 -- Demand 3: of the ring apart from its layout, and of the ring in memory. A matched record has a place on the ring and a measure that pays
 -- for every counted call (Measure), while it is under way something would be accepted (Stall), and its channel's records keep their order
--- (Order); Run takes this from one call to every list of calls, and Machine from the ring to the ring in memory. Assumes nothing.
+-- (Order); Run takes this from one call to every list of calls, and Machine from the ring to the ring in memory.
 use Prim.Native.Nat.{ℕ, _+_, _≤_, _<_}
 use mathlib.Core.Path.{_≡_, refl, sym, ap, subst, _∙_}
 use mathlib.Core.Logic.{_⊎_, inl, inr, ⊎-elim}

@@ -1,6 +1,6 @@
 -- Demand 3 of lists of acts (specs/Dispatch): of whatever answers single calls as the ring that it holds (Machine) each act has the answer
 -- and the next ring of the definitions, and an unsound ring is refused; delivery in time, and order, are those of the single calls that the acts
--- stand for (Acts). Assumes nothing.
+-- stand for (Acts).
 use Prim.Native.Nat.{ℕ}
 use mathlib.Core.Path.{_≡_, refl, sym, ap, _∙_}
 use mathlib.Core.Bool.{Bool, true, false}

@@ -1,6 +1,6 @@
 -- The dispatcher keeps what is promised (specs/Dispatch): of the ring apart from its layout, and so of whatever answers ring calls the same
 -- way. What is left to do (Todo) pays for every accepted entry and move. If a round accepted nothing, the ring stayed as it was, so that
--- every entry and move was refused on it, against no stall; so a round with something on the ring takes at least one off. Assumes nothing.
+-- every entry and move was refused on it, against no stall; so a round with something on the ring takes at least one off.
 use Prim.Native.Nat.{ℕ, zero, suc, _+_, _≤_, _<_}
 use mathlib.Core.Path.{_≡_, refl, sym, ap, subst, _∙_}
 use mathlib.Core.Logic.{⊎-elim}

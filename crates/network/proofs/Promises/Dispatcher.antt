@@ -1,5 +1,5 @@
 -- The answer of the dispatcher in code tells every delivery, and code that meets the contracts, that of the dispatcher too, keeps what is
--- promised (specs/Dispatcher): what it returns is what the definitions say of the same entries and moves called singly. Assumes nothing.
+-- promised (specs/Dispatcher): what it returns is what the definitions say of the same entries and moves called singly.
 use Prim.Native.Nat.{ℕ, _≤_, _<_}
 use mathlib.Core.Path.{_≡_, refl, sym, ap, subst, _∙_}
 use mathlib.Core.Logic.{_≢_}

@@ -1,6 +1,6 @@
 -- The dummies are rejected: each answers a named call at a named ring otherwise than the definitions, by computation; and for the first, the
 -- fourth and the fifth one run, computed, goes past the bound with nothing delivered, or nothing is accepted next, or a record is delivered
--- that was not offered. Assumes nothing.
+-- that was not offered.
 use Prim.Native.Nat.{ℕ, suc, _≤_}
 use mathlib.Core.Path.{_≡_, refl, sym, ap, _∙_}
 use mathlib.Core.Logic.{_⊎_, _≢_, ⊎-elim}

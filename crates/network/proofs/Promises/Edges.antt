@@ -1,5 +1,5 @@
 -- The edges P1 to P11, by one computed test over the table and one law that turns it into a fact about each row; and the two worked
--- runs, computed. The test runs on the ring apart from its layout, which answers as the ring in memory does. Assumes nothing.
+-- runs, computed. The test runs on the ring apart from its layout, which answers as the ring in memory does.
 use Prim.Native.Nat.{ℕ, zero, suc, _<_}
 use mathlib.Core.Path.{_≡_, refl, ap, _∙_}
 use mathlib.Core.Bool.{Bool, true, _&&_}

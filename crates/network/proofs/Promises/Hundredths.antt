@@ -1,5 +1,5 @@
 -- The worked temperatures and deliveries in both units, of the ring in memory, which answers as the ring apart from its layout does
--- (Ground/Hundredths). Assumes nothing.
+-- (Ground/Hundredths).
 use mathlib.Core.Path.{_∙_}
 use Rattle.network.specs.Hundredths.{temperatures, twoWays, bothUnits, RingUnits}
 use Rattle.network.proofs.Ground.Hundredths as lists

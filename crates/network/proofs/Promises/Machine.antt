@@ -1,5 +1,5 @@
 -- What is shown of the ring apart from its layout holds of anything that answers ring calls the same way: a `Machine`. Its runs are
--- runs of the ring that it holds, call for call, so delivery in time and order are carried over, and demand 3 is whole. Assumes nothing.
+-- runs of the ring that it holds, call for call, so delivery in time and order are carried over, and demand 3 is whole.
 use mathlib.Core.Path.{_≡_, refl, ap, _∙_}
 use mathlib.Core.Logic.{_⊎_, inl, inr, ⊎-elim}
 use mathlib.Core.Bool.{Bool, true, false}

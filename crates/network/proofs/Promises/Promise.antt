@@ -1,5 +1,5 @@
 -- Code that meets the contracts keeps what is promised (specs/Promise): what it returns says what the definitions say, so that demand 3 of
--- the ring in memory is demand 3 of the code. Assumes nothing.
+-- the ring in memory is demand 3 of the code.
 use mathlib.Core.Path.{_≡_, refl, sym, ap, subst, _∙_}
 use mathlib.Core.Logic.{_≢_}
 use Rattle.batch.specs.Blank.{noRecord}

@@ -1,5 +1,5 @@
 -- The worked rounds and acts of the ring in memory (specs/Rounds): computed on the ring apart from its layout (Computed), which makes
--- the same rounds with the same calls and deliveries. Assumes nothing.
+-- the same rounds with the same calls and deliveries.
 use Prim.Native.Nat.{ℕ}
 use mathlib.Core.Path.{_≡_, refl, sym, ap, _∙_}
 use mathlib.Core.Bool.{Bool, true, false, cond}

@@ -1,6 +1,6 @@
 -- An entry or a move on a sound started ring in memory, accepted or refused: the ring stays sound and started with as many nodes, its
 -- messages are fewer by what is delivered, and a delivered record fits its types. This is what code that makes one after the other needs
--- of each. Assumes nothing.
+-- of each.
 use Prim.Native.Nat.{_+_, _≤_}
 use mathlib.Core.Path.{_≡_, sym, ap, _∙_}
 use mathlib.Core.Bool.{true}

@@ -1,6 +1,5 @@
 -- The worked lists of calls with withdrawals, computed on the ring apart from its layout, which answers and counts as the ring in memory
 -- does (those of deeds are in Ground/Deeds); what 28 means; and a matched pair that is withdrawn, of which neither case of `Served` holds.
--- Assumes nothing.
 use Prim.Native.Nat.{ℕ, zero, suc}
 use mathlib.Core.Path.{_≡_, refl, sym, ap, _∙_}
 use mathlib.Core.Bool.{false, _||_, false≢true}

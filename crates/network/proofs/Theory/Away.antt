@@ -1,5 +1,5 @@
 -- Theory. How far a node is behind another in ring order, from 0 to n - 1, and how that changes when the one or the other goes on to the
--- next node. Each law is arithmetic once the tests in the definitions are decided. Assumes nothing.
+-- next node. Each law is arithmetic once the tests in the definitions are decided.
 use Prim.Native.Nat.{ℕ, suc, _+_, _-_, _≤_, _<_}
 use mathlib.Core.Path.{_≡_}
 use mathlib.Core.Logic.{_≢_, ⊎-elim}

@@ -1,6 +1,6 @@
 -- Theory. The count with withdrawals, and the receives that they undo, left out. Every withdrawal undoes a receive of the run or takes out a
 -- request that stood before it, and of these there is at most one for each channel. So where a number pays for all that a run takes,
--- withdrawals giving one back, that number and c bound the count. Assumes nothing.
+-- withdrawals giving one back, that number and c bound the count.
 use Prim.Native.Nat.{ℕ, _+_, _≤_, _<_}
 use mathlib.Core.Path.{_≡_, refl, sym}
 use mathlib.Core.Logic.{_≢_}

@@ -1,6 +1,6 @@
 -- Theory. Every accepted receive, send, enter, move and withdraw keeps a sound started ring sound. A step is taken apart into changes of one
 -- table, each of which keeps all clauses but `once` (Fit). Between them the channel at work stands nowhere (Off): then its phase may change,
--- and its message may come back at a fit place. Assumes nothing.
+-- and its message may come back at a fit place.
 use Prim.Native.Nat.{ℕ, suc, _+_, _≤_, _<_}
 use mathlib.Core.Path.{_≡_, refl, sym, ap, _∙_}
 use mathlib.Core.Logic.{_≢_}

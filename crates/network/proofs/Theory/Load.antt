@@ -1,6 +1,6 @@
 -- Theory. What the nodes weigh together, for any weight of a node's buffer and line, and how a change at one node alters it; and what all
 -- messages weigh, for any weight of a channel at a node: one that leaves takes its weight off, one that comes adds its own. A count is
--- such a weight, and Weight builds the measure's on it. Assumes nothing.
+-- such a weight, and Weight builds the measure's on it.
 use Prim.Native.Nat.{ℕ, _+_, _<_}
 use mathlib.Core.Path.{_≡_, sym, ap}
 use mathlib.Core.Logic.{_≢_}

@@ -1,7 +1,6 @@
 -- Theory. A number that falls with every accepted receive, send, entry and move while a record is matched on channel m, until it is
 -- delivered, and rises by one with a withdrawal on another channel: what the others weigh on their way to m's node, the delay of m there,
 -- and the way that m has to go. When m itself goes on, each other channel weighs at most 3 more, and the way that m went pays for it.
--- Assumes nothing.
 use Prim.Native.Nat.{ℕ, suc, _+_, _*_, _≤_, _<_}
 use mathlib.Core.Path.{_≡_, refl, sym, ap, _∙_}
 use mathlib.Core.Logic.{_≢_, _⊎_, inl, inr}

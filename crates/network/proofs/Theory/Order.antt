@@ -1,5 +1,5 @@
 -- Theory. Records keep their order on a channel: what was offered and not yet delivered is the record carried, if the channel is
--- answering, and then the record offered. Every step keeps "offered is delivered and then pending". Assumes nothing.
+-- answering, and then the record offered. Every step keeps "offered is delivered and then pending".
 use Prim.Native.Nat.{ℕ}
 use mathlib.Core.Path.{_≡_, refl, sym}
 use mathlib.Core.Logic.{_≢_}

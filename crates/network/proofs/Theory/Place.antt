@@ -1,6 +1,5 @@
 -- Theory. Where the message of channel m stands, and a bound on its delay: how many others may still leave that node before it. Each
 -- change that steps are made of keeps the place and the bound, unless it moves m itself; a message that leaves ahead of m takes one off.
--- Assumes nothing.
 use Prim.Native.Nat.{ℕ, suc, _+_, _*_, _≤_, _<_}
 use mathlib.Core.Path.{_≡_, refl, sym, ap, _∙_}
 use mathlib.Core.Logic.{_≢_}

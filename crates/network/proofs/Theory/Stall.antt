@@ -1,6 +1,6 @@
 -- Theory. The ring cannot stall: while a message is on it, an entry or a move would be accepted at some node. If none were, a node with a
 -- line would be full, and so would the node after one with a message in its buffer; then, node by node round the ring, all would be full,
--- against more slots than channels. Assumes nothing.
+-- against more slots than channels.
 use Prim.Native.Nat.{ℕ, zero, suc, _+_, _≤_, _<_}
 use mathlib.Core.Path.{_≡_, refl}
 use mathlib.Core.Logic.{_≢_, _⊎_, inl, inr, ⊎-elim}

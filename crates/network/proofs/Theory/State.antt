@@ -1,6 +1,6 @@
 -- Theory. The theory's own picture of a started ring: what never changes after the start (Net) apart from what a step changes (State),
 -- both as tables, functions of a node or a channel number as a plain one. A step that was accepted is a case of `Did`, which carries what
--- its tests showed. Every theorem about steps goes by these cases and sees neither a refusal nor a layout. Assumes nothing.
+-- its tests showed. Every theorem about steps goes by these cases and sees neither a refusal nor a layout.
 use Prim.Native.Nat.{ℕ, _+_, _≤_, _<_}
 use mathlib.Core.Path.{_≡_, refl}
 use mathlib.Core.Logic.{_≢_}

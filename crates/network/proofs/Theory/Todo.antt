@@ -1,6 +1,6 @@
 -- Theory. What is left to do where nothing but entries and moves is called: the hops and entries left of every message. Each accepted entry
 -- and move makes it smaller, and it is at most c(2n + 2). Beside it, the messages on the ring: an entry or a move adds none, and a delivery
--- takes its own off. Assumes nothing.
+-- takes its own off.
 use Prim.Native.Nat.{ℕ, suc, _+_, _*_, _≤_, _<_}
 use mathlib.Core.Path.{_≡_, refl, ap, subst}
 use mathlib.Core.Logic.{_≢_}

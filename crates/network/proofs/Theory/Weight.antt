@@ -1,6 +1,6 @@
 -- Theory. What a ring weighs, for any weight of its nodes: each message as its node, one more while it stands in a line; an idle channel
 -- as the node where its next message enters, and two more; a channel with no offer one more. Each change that steps are made of alters
--- this at one node or one channel. Assumes nothing.
+-- this at one node or one channel.
 use Prim.Native.Nat.{ℕ, suc, _+_, _*_, _≤_, _<_}
 use mathlib.Core.Path.{_≡_, refl, ap}
 use mathlib.Core.Bool.{Bool, true, false, not}

@@ -1,4 +1,4 @@
--- `network::one_more` meets its contract. Assumes nothing.
+-- `network::one_more` meets its contract.
 use native.Mathlib.Omega.{arith}
 use Rattle.network.specs.Sound.{oneMore}
 use Rattle.network.proofs.one_more.Statement.{statement}

@@ -1,4 +1,4 @@
--- `plan::add_channel` meets its contract: each return carries what the tests showed to the law of its case. Assumes nothing.
+-- `plan::add_channel` meets its contract: each return carries what the tests showed to the law of its case.
 use borrow.Author.Needs.{needs}
 use Rattle.network.specs.declared.Ring.{Ring}
 use Rattle.network.specs.Runs

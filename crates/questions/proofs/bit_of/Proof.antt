@@ -1,4 +1,4 @@
--- `questions::bit_of` meets its contract by its two tests. Assumes nothing.
+-- `questions::bit_of` meets its contract by its two tests.
 use borrow.Author.Tests.{eq-eqb, ne-eqb}
 use Rattle.questions.proofs.bit_of.Statement.{statement}
 use Rattle.questions.proofs.bit_of.Tie as tie

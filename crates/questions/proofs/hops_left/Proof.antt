@@ -1,4 +1,4 @@
--- `questions::hops_left` meets its contract: a refused opening is the call's refusal, and an open one has the hops found. Assumes nothing.
+-- `questions::hops_left` meets its contract: a refused opening is the call's refusal, and an open one has the hops found.
 use mathlib.Core.Path.{sym, ap, _∙_}
 use borrow.Author.Needs.{needs}
 use Rattle.network.specs.declared.Answer.the-variants.{Hops}

@@ -1,4 +1,4 @@
--- `questions::hops_of` meets its contract: each return carries the phase that the tests showed to its case. Assumes nothing.
+-- `questions::hops_of` meets its contract: each return carries the phase that the tests showed to its case.
 use Prim.Native.Nat.{_+_}
 use native.Mathlib.Omega.{arith}
 use borrow.Author.Needs.{needs}

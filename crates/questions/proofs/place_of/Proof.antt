@@ -1,5 +1,4 @@
 -- `questions::place_of` meets its contract. The invariant: the cell stands at the node where it stands among the first `p`.
--- Assumes nothing.
 use Prim.Native.Nat.{_-_, _≤_}
 use mathlib.Core.Path.{_≡_, sym, _∙_}
 use native.Mathlib.Omega.{arith}

@@ -1,5 +1,5 @@
 -- `questions::set_of` meets its contract. The invariant: the bits of all channels are those of the channels still to come and,
--- above them, the set. Assumes nothing.
+-- above them, the set.
 use Prim.Native.Nat.{ℕ, suc, _+_, _*_, _-_, _^_, _≤_, _<_}
 use mathlib.Core.Path.{_≡_, sym, _∙_}
 use native.Mathlib.Omega.{arith}

@@ -1,4 +1,4 @@
--- `questions::tasks_in` meets its contract: each case of an answer is told as the definition tells it. Assumes nothing.
+-- `questions::tasks_in` meets its contract: each case of an answer is told as the definition tells it.
 use mathlib.Core.Path.{_≡_, refl, sym, ap, _∙_}
 use mathlib.Core.List.{[], _∷_}
 use types.Run.{OneOf, miss}

@@ -1,4 +1,4 @@
--- `questions::waiting_set` meets its contract: a refused opening is the call's refusal, and an open one has the set made. Assumes nothing.
+-- `questions::waiting_set` meets its contract: a refused opening is the call's refusal, and an open one has the set made.
 use mathlib.Core.Path.{sym, ap, _∙_}
 use borrow.Author.Needs.{needs}
 use Rattle.network.specs.declared.Answer.the-variants.{Waiting}

@@ -1,4 +1,4 @@
--- `report::push_delivery` meets its contract: any answer but a delivery appends nothing. Assumes nothing.
+-- `report::push_delivery` meets its contract: any answer but a delivery appends nothing.
 use mathlib.Core.Path.{_≡_, refl}
 use mathlib.Core.List.{[], _∷_}
 use mathlib.Core.Option.{none}

@@ -1,4 +1,4 @@
--- `report::push_line` meets its contract: each field is appended to those before it. Assumes nothing.
+-- `report::push_line` meets its contract: each field is appended to those before it.
 use native.Mathlib.Omega.{arith}
 use borrow.Author.Needs.{needs}
 use Rattle.report.specs.Line.{lineOf}

@@ -1,4 +1,4 @@
--- `report::push_record` meets its contract: each field is appended to those before it. Assumes nothing.
+-- `report::push_record` meets its contract: each field is appended to those before it.
 use borrow.Author.Needs.{needs}
 use mir.Syntax.{w16}
 use mir.Val.{SFits}

@@ -1,4 +1,4 @@
--- `report::put_text` meets its contract: the line is appended to what stands before its place, or nothing is done. Assumes nothing.
+-- `report::put_text` meets its contract: the line is appended to what stands before its place, or nothing is done.
 use mathlib.Core.Path.{ap, _∙_}
 use native.Mathlib.Omega.{arith}
 use borrow.Author.Needs.{needs}

@@ -1,4 +1,4 @@
--- `report::refusal_in` meets its contract: any answer but a refusal has the number 0. Assumes nothing.
+-- `report::refusal_in` meets its contract: any answer but a refusal has the number 0.
 use Prim.Native.Nat.{ℕ}
 use mathlib.Core.Path.{_≡_, refl, sym, ap, _∙_}
 use mathlib.Core.List.{[], _∷_}

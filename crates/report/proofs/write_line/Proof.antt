@@ -1,4 +1,4 @@
--- `report::write_line` meets its contract: the text that is put holds the line. Assumes nothing.
+-- `report::write_line` meets its contract: the text that is put holds the line.
 use mathlib.Core.Path.{sym}
 use native.Mathlib.Omega.{arith}
 use lib.Seq.{length-take-le}

@@ -1,4 +1,4 @@
--- `runner::code_at` meets its contract: past the end `getD` gives 0. Assumes nothing.
+-- `runner::code_at` meets its contract: past the end `getD` gives 0.
 use mathlib.Core.Path.{sym}
 use borrow.Author.Needs.{needs}
 use lib.ListN.{List·getD-eq-default}

@@ -1,4 +1,4 @@
--- `runner::counted` meets its contract: the count that rises goes by the answer. Assumes nothing.
+-- `runner::counted` meets its contract: the count that rises goes by the answer.
 use mathlib.Core.Path.{sym, _∙_}
 use borrow.Author.Needs.{needs}
 use Rattle.runner.proofs.counted.Statement.{statement}

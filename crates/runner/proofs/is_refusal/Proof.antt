@@ -1,4 +1,4 @@
--- `runner::is_refusal` meets its contract: any answer but a refusal is none. Assumes nothing.
+-- `runner::is_refusal` meets its contract: any answer but a refusal is none.
 use mathlib.Core.Path.{_≡_, refl}
 use mathlib.Core.Bool.{false}
 use mathlib.Core.List.{[], _∷_}

@@ -1,5 +1,5 @@
 -- `runner::next_line` meets its contract: what happened, the tape too long, a command run, the tape ended or a command refused by the reader,
--- is the next line of the session by the law of that name. Assumes nothing.
+-- is the next line of the session by the law of that name.
 use Prim.Native.Nat.{ℕ}
 use mathlib.Core.Path.{_≡_}
 use mathlib.Core.List.{List}

@@ -1,4 +1,4 @@
--- `runner::put_too_long` meets its contract: there is room for any line. Assumes nothing.
+-- `runner::put_too_long` meets its contract: there is room for any line.
 use borrow.Author.Needs.{needs}
 use Rattle.runner.proofs.Put.{placed}
 use Rattle.runner.proofs.put_too_long.Statement.{statement}

@@ -1,4 +1,4 @@
--- `runner::refuse` meets its contract: the refusal alone, and no record. Assumes nothing.
+-- `runner::refuse` meets its contract: the refusal alone, and no record.
 use borrow.Author.Needs.{needs}
 use Rattle.runner.proofs.refuse.Statement.{statement}
 use Rattle.runner.proofs.refuse.Tie as tie

@@ -1,5 +1,5 @@
 -- `runner::run` meets its contract. The loop's invariant is `SoFar`, and its measure is how many bytes are to come; each turn of the loop is
--- the next line of the session. Assumes nothing.
+-- the next line of the session.
 use mathlib.Core.Path.{_≡_}
 use mathlib.Core.Bool.{false}
 use mathlib.Core.Logic.{⊎-elim}

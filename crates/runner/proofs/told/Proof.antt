@@ -1,4 +1,4 @@
--- `runner::told` meets its contract: the line that was put, and the counts after it. Assumes nothing.
+-- `runner::told` meets its contract: the line that was put, and the counts after it.
 use borrow.Author.Needs.{needs}
 use Rattle.runner.proofs.told.Statement.{statement}
 use Rattle.runner.proofs.told.Tie as tie

@@ -1,4 +1,4 @@
--- `soundness::counts_fit` meets its contract: each test settles a part of the statement. Assumes nothing.
+-- `soundness::counts_fit` meets its contract: each test settles a part of the statement.
 use native.Mathlib.Omega.{arith}
 use Rattle.messages.proofs.Decides.{says-no, restated, decides-same}
 use Rattle.soundness.proofs.counts_fit.Statement.{statement}

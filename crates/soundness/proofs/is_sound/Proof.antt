@@ -1,4 +1,4 @@
--- `soundness::is_sound` meets its contract: its tests are the parts of `Fits`, and a ring fits exactly when it is sound. Assumes nothing.
+-- `soundness::is_sound` meets its contract: its tests are the parts of `Fits`, and a ring fits exactly when it is sound.
 use mathlib.Core.Path.{_≡_, refl}
 use mathlib.Core.Bool.{Bool, false}
 use borrow.Author.Needs.{needs}

@@ -1,4 +1,4 @@
--- `soundness::slot_count` meets its contract: the loop adds up the slots of the nodes (messages/proofs/Loops). Assumes nothing.
+-- `soundness::slot_count` meets its contract: the loop adds up the slots of the nodes (messages/proofs/Loops).
 use Prim.Native.Nat.{_-_}
 use mathlib.Core.Path.{refl}
 use native.Mathlib.Omega.{arith}

@@ -1,4 +1,4 @@
--- `soundness::start_fits` meets its contract: each test settles a part of the statement. Assumes nothing.
+-- `soundness::start_fits` meets its contract: each test settles a part of the statement.
 use native.Mathlib.Omega.{arith}
 use borrow.Author.Needs.{needs}
 use Rattle.messages.proofs.Decides.{says-no, restated, decides-same, decides-less}

@@ -1,4 +1,4 @@
--- `tape::fields_in` meets its contract: only a shape that carries a record has room for one. Assumes nothing.
+-- `tape::fields_in` meets its contract: only a shape that carries a record has room for one.
 use Prim.Native.Nat.{_≤_}
 use mathlib.Core.Path.{_≡_, sym, _∙_}
 use mathlib.Core.Bool.{true}

@@ -1,4 +1,4 @@
--- `tape::operand_at` meets its contract: where the bytes have ended, no bytes are the number 0. Assumes nothing.
+-- `tape::operand_at` meets its contract: where the bytes have ended, no bytes are the number 0.
 use mathlib.Core.Path.{sym}
 use native.Mathlib.Omega.{arith}
 use borrow.Author.Needs.{needs}

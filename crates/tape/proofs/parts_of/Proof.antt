@@ -1,4 +1,4 @@
--- `tape::parts_of` meets its contract: each line of the match is the line of its action in the definition. Assumes nothing.
+-- `tape::parts_of` meets its contract: each line of the match is the line of its action in the definition.
 use borrow.Author.Needs.{needs}
 use Rattle.tape.proofs.parts_of.Statement.{statement}
 use Rattle.tape.proofs.parts_of.Tie as tie

@@ -1,4 +1,4 @@
--- `tape::put_command` meets its contract: for each shape, its operands follow the command byte. Assumes nothing.
+-- `tape::put_command` meets its contract: for each shape, its operands follow the command byte.
 use Prim.Native.Nat.{_≤_}
 use mathlib.Core.Path.{_∙_}
 use mathlib.Core.List.{_++_}

@@ -1,4 +1,4 @@
--- `tape::read` meets its contract: each way out by the tests that led there. Assumes nothing.
+-- `tape::read` meets its contract: each way out by the tests that led there.
 use Prim.Native.Nat.{ℕ, _+_, _<_, _≤_}
 use mathlib.Core.Path.{_≡_, sym, ap, _∙_}
 use mathlib.Core.List.{List}

@@ -1,4 +1,4 @@
--- `tape::row_in` meets its contract: the operands are read, then the row. Assumes nothing.
+-- `tape::row_in` meets its contract: the operands are read, then the row.
 use borrow.Author.Needs.{needs}
 use Rattle.tape.proofs.row_in.Statement.{statement}
 use Rattle.tape.proofs.row_in.Tie as tie

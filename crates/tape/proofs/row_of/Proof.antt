@@ -1,4 +1,4 @@
--- `tape::row_of` meets its contract: each line of the match is the row of its command byte, computed. Assumes nothing.
+-- `tape::row_of` meets its contract: each line of the match is the row of its command byte, computed.
 use borrow.Author.Needs.{needs}
 use Rattle.tape.specs.Table.{rowOf, find, commands}
 use Rattle.tape.proofs.CommandTable.{unknown}

@@ -1,4 +1,4 @@
--- `tape::send_code` meets its contract: a byte for each unit. Assumes nothing.
+-- `tape::send_code` meets its contract: a byte for each unit.
 use borrow.Author.Needs.{needs}
 use Rattle.tape.proofs.send_code.Statement.{statement}
 use Rattle.tape.proofs.send_code.Tie as tie

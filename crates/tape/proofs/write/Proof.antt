@@ -1,4 +1,4 @@
--- `tape::write` meets its contract: each way out by the tests that led there. Assumes nothing.
+-- `tape::write` meets its contract: each way out by the tests that led there.
 use Prim.Native.Nat.{ℕ, _+_, _<_}
 use mathlib.Core.Path.{_≡_, refl, ap, subst, _∙_}
 use mathlib.Core.List.{List}

@@ -1,4 +1,4 @@
--- `tasks::receive` meets its contract: each return carries what the tests showed to the law of its case. Assumes nothing.
+-- `tasks::receive` meets its contract: each return carries what the tests showed to the law of its case.
 use native.Mathlib.Omega.{arith}
 use borrow.Author.Needs.{needs}
 use Rattle.network.specs.declared.Ring.{Ring}

@@ -1,4 +1,4 @@
--- `tasks::send` meets its contract: each return carries what the tests showed to the law of its case. Assumes nothing.
+-- `tasks::send` meets its contract: each return carries what the tests showed to the law of its case.
 use mathlib.Core.Path.{_≡_, sym, ap, _∙_}
 use borrow.Author.Needs.{needs}
 use Rattle.refusal.specs.declared.Verdict.the-variants.{Passed}

@@ -1,5 +1,4 @@
 -- The proof of the cycle of calls {push_decimal}. The measure is the number itself: a tenth of it is less.
--- Assumes nothing.
 use Prim.Native.Nat.{ℕ, _<_}
 use native.Mathlib.Omega.{arith}
 use borrow.Fn.Kinds.{In}

@@ -1,4 +1,4 @@
--- `text::distance` meets its contract: by the sign. Assumes nothing.
+-- `text::distance` meets its contract: by the sign.
 use mathlib.Core.Path.{_≡_, ap}
 use native.Mathlib.Omega.{arith}
 use lib.IntN.{negsuc, natAbs}

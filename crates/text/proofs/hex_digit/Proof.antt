@@ -1,4 +1,4 @@
--- `text::hex_digit` meets its contract: by the test. Assumes nothing.
+-- `text::hex_digit` meets its contract: by the test.
 use borrow.Author.Needs.{needs}
 use borrow.Author.Tests.{lt-ltb, le-ltb}
 use Rattle.text.proofs.hex_digit.Statement.{statement}

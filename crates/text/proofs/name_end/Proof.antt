@@ -1,4 +1,4 @@
--- `text::name_end` meets its contract: by the test. Assumes nothing.
+-- `text::name_end` meets its contract: by the test.
 use native.Mathlib.Omega.{arith}
 use Rattle.text.proofs.name_end.Statement.{statement}
 use Rattle.text.proofs.name_end.Tie as tie

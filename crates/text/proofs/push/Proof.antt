@@ -1,4 +1,4 @@
--- `text::push` meets its contract: the byte is stored after the others. Assumes nothing.
+-- `text::push` meets its contract: the byte is stored after the others.
 use borrow.Author.Needs.{needs}
 use Rattle.text.proofs.Appends.{stored}
 use Rattle.text.proofs.push.Statement.{statement}

@@ -1,5 +1,4 @@
 -- `text::push_all` meets its contract. The loop's invariant: the first i bytes are at their place, all else is as it was.
--- Assumes nothing.
 use Prim.Native.Nat.{_+_, _-_, _≤_}
 use mathlib.Core.Path.{_≡_, refl, _∙_}
 use native.Mathlib.Omega.{arith}

@@ -1,4 +1,4 @@
--- `text::push_field` meets its contract: a space and then the number. Assumes nothing.
+-- `text::push_field` meets its contract: a space and then the number.
 use borrow.Author.Needs.{needs}
 use Rattle.text.proofs.Appends.{_then_}
 use Rattle.text.proofs.push_field.Statement.{statement}

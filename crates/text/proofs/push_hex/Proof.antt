@@ -1,4 +1,4 @@
--- `text::push_hex` meets its contract: a space and two digits. Assumes nothing.
+-- `text::push_hex` meets its contract: a space and two digits.
 use borrow.Author.Needs.{needs}
 use Rattle.text.specs.Digits.{hex2}
 use Rattle.text.proofs.Appends.{_then_}

@@ -1,5 +1,5 @@
 -- `text::push_name` meets its contract: an empty name appends nothing, and the cells before `end` are those that the length
--- takes. Assumes nothing.
+-- takes.
 use Prim.Native.Nat.{ℕ, min}
 use mathlib.Core.Path.{_≡_, refl, sym, ap, _∙_}
 use mathlib.Core.List.{List, [], _∷_}

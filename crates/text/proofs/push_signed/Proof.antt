@@ -1,4 +1,4 @@
--- `text::push_signed` meets its contract: by the sign. Assumes nothing.
+-- `text::push_signed` meets its contract: by the sign.
 use mathlib.Core.Path.{_≡_, ap, _∙_}
 use native.Mathlib.Omega.{arith}
 use lib.IntN.{ℤ, natAbs}

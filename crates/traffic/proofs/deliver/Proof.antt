@@ -1,4 +1,4 @@
--- `traffic::deliver` meets its contract: the changes one after the other are those of the law. Assumes nothing.
+-- `traffic::deliver` meets its contract: the changes one after the other are those of the law.
 use borrow.Author.Needs.{needs}
 use Rattle.traffic.proofs.Move.{cell-used, cell-within, leave-room, slots-whole, delivery-made}
 use Rattle.traffic.proofs.deliver.Statement.{statement}

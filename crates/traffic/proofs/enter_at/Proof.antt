@@ -1,4 +1,4 @@
--- `traffic::enter_at` meets its contract: each return carries what the tests showed to the law of its case. Assumes nothing.
+-- `traffic::enter_at` meets its contract: each return carries what the tests showed to the law of its case.
 use native.Mathlib.Omega.{arith}
 use borrow.Author.Needs.{needs}
 use Rattle.updates.proofs.Openings.{refuses, accepts}

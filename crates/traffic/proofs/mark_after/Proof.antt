@@ -1,4 +1,4 @@
--- `traffic::mark_after` meets its contract by its one test. Assumes nothing.
+-- `traffic::mark_after` meets its contract by its one test.
 use borrow.Author.Tests.{lt-ltb, le-ltb}
 use Rattle.traffic.proofs.mark_after.Statement.{statement}
 use Rattle.traffic.proofs.mark_after.Tie as tie

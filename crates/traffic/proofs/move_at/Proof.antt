@@ -1,4 +1,4 @@
--- `traffic::move_at` meets its contract: each of the three ways is taken where its part asks for it. Assumes nothing.
+-- `traffic::move_at` meets its contract: each of the three ways is taken where its part asks for it.
 use Prim.Native.Nat.{_*_, _-_}
 use mathlib.Core.Path.{_≡_, refl, sym, _∙_}
 use native.Mathlib.Omega.{arith}

@@ -1,4 +1,4 @@
--- `traffic::move_on` meets its contract: a refused opening is the call's refusal, and an open one is what `move_at` asks. Assumes nothing.
+-- `traffic::move_on` meets its contract: a refused opening is the call's refusal, and an open one is what `move_at` asks.
 use borrow.Author.Needs.{needs}
 use Rattle.network.specs.Runs
 use Rattle.updates.proofs.Openings.{turns-away, node-open}

@@ -1,4 +1,4 @@
--- `traffic::next_node` meets its contract: after the last node comes node 0. Assumes nothing.
+-- `traffic::next_node` meets its contract: after the last node comes node 0.
 use mathlib.Core.Path.{sym}
 use mathlib.Core.Logic.{⊎-elim}
 use native.Mathlib.Omega.{arith}

@@ -1,4 +1,4 @@
--- `traffic::pass` meets its contract: each return carries what the tests showed to the law of its case. Assumes nothing.
+-- `traffic::pass` meets its contract: each return carries what the tests showed to the law of its case.
 use Prim.Native.Nat.{_<_}
 use native.Mathlib.Omega.{arith}
 use borrow.Author.Needs.{needs}

@@ -1,4 +1,4 @@
--- `traffic::take` meets its contract: each return carries what the test showed to the law of its case. Assumes nothing.
+-- `traffic::take` meets its contract: each return carries what the test showed to the law of its case.
 use borrow.Author.Needs.{needs}
 use Rattle.traffic.proofs.Move.{cell-used, cell-within, leave-room, slots-whole, ready-made, take-room, take-made}
 use Rattle.traffic.proofs.take.Statement.{statement}

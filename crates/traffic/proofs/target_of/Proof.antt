@@ -1,4 +1,4 @@
--- `traffic::target_of` meets its contract by its one test. Assumes nothing.
+-- `traffic::target_of` meets its contract by its one test.
 use borrow.Author.Tests.{eq-eqb, ne-eqb}
 use Rattle.traffic.proofs.target_of.Statement.{statement}
 use Rattle.traffic.proofs.target_of.Tie as tie

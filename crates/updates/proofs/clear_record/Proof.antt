@@ -1,4 +1,4 @@
--- `updates::clear_record` meets its contract: the record that is put is the blank one. Assumes nothing.
+-- `updates::clear_record` meets its contract: the record that is put is the blank one.
 use borrow.Author.Needs.{needs}
 use Rattle.updates.proofs.clear_record.Statement.{statement}
 use Rattle.updates.proofs.clear_record.Tie as tie

@@ -1,5 +1,4 @@
 -- `updates::cut` meets its contract. The invariant: the first j cells of the new row stand already, the others are as they were.
--- Assumes nothing.
 use Prim.Native.Nat.{ℕ, _+_, _*_, _-_, _≤_, _<_}
 use mathlib.Core.Path.{_≡_, sym, _∙_}
 use mathlib.Core.List.{List}

@@ -1,4 +1,4 @@
--- `updates::index_in` meets its contract. The invariant: the cell is not among the first `i`. Assumes nothing.
+-- `updates::index_in` meets its contract. The invariant: the cell is not among the first `i`.
 use Prim.Native.Nat.{ℕ, _+_, _-_, _≤_, _<_}
 use mathlib.Core.Logic.{_≢_}
 use native.Mathlib.Omega.{arith}

@@ -1,4 +1,4 @@
--- `updates::leave_line` meets its contract: the row is cut, the count is one less, and the mark is what `mark_left` says. Assumes nothing.
+-- `updates::leave_line` meets its contract: the row is cut, the count is one less, and the mark is what `mark_left` says.
 use mathlib.Core.Path.{refl}
 use borrow.Author.Needs.{needs}
 use Rattle.updates.proofs.leave_line.Statement.{statement}

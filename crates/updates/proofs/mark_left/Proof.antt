@@ -1,4 +1,4 @@
--- `updates::mark_left` meets its contract by its one test. Assumes nothing.
+-- `updates::mark_left` meets its contract by its one test.
 use native.Mathlib.Omega.{arith}
 use borrow.Author.Tests.{lt-ltb, le-ltb}
 use Rattle.updates.proofs.mark_left.Statement.{statement}

@@ -1,4 +1,4 @@
--- `updates::record_of` meets its contract: a record reads no further than its own bytes. Assumes nothing.
+-- `updates::record_of` meets its contract: a record reads no further than its own bytes.
 use mathlib.Core.Path.{sym, _∙_}
 use borrow.Author.Needs.{needs}
 use Rattle.network.specs.Layout.{row}

@@ -1,5 +1,5 @@
 -- `vessel_ring_list` meets its contract: what one run writes and what is then to come are the listing, and a run stops short only where
--- there is no room for one more line. Assumes nothing.
+-- there is no room for one more line.
 use Prim.Native.Nat.{ℕ, _+_, _<_, _≤_}
 use mathlib.Core.Path.{_≡_, ap, sym, _∙_}
 use mathlib.Core.Bool.{true, false}

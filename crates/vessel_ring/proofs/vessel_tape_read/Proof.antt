@@ -1,4 +1,4 @@
--- `vessel_tape_read` meets its contract: `tape::read` says what is read. Assumes nothing.
+-- `vessel_tape_read` meets its contract: `tape::read` says what is read.
 use mathlib.Core.Path.{_∙_, ap}
 use borrow.Author.Needs.{needs}
 use Rattle.c_structs.specs.Commands.{readingIn}

@@ -1,4 +1,4 @@
--- `wire::fields_in` meets its contract: field by field. Assumes nothing.
+-- `wire::fields_in` meets its contract: field by field.
 use borrow.Author.Needs.{needs, sfits-of}
 use mir.Facts.{toZ-ofZ}
 use Rattle.wire.specs.Record.{recordIn}

@@ -1,5 +1,4 @@
 -- `wire::name_at` meets its contract. The loop's invariant: the name's bytes that were passed are those read.
--- Assumes nothing.
 use Prim.Native.Nat.{_≤_, _<_, _-_}
 use mathlib.Core.Path.{_≡_, refl, ap, _∙_}
 use mathlib.Core.List.{append-nil}

@@ -1,5 +1,4 @@
 -- `wire::put_fields` meets its contract: each field goes to the part that begins where the one before it ends.
--- Assumes nothing.
 use mathlib.Core.Path.{_∙_}
 use mathlib.Core.List.{_++_}
 use borrow.Author.Needs.{needs}

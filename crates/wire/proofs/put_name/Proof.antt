@@ -1,5 +1,4 @@
 -- `wire::put_name` meets its contract. The loop's invariant: the bytes passed are the name's, the others as they were.
--- Assumes nothing.
 use Prim.Native.Nat.{_≤_, _-_}
 use mathlib.Core.Path.{_≡_, refl, _∙_}
 use native.Mathlib.Omega.{arith}

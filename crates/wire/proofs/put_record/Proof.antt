@@ -1,4 +1,4 @@
--- `wire::put_record` meets its contract: the bytes of a record are those of its fields. Assumes nothing.
+-- `wire::put_record` meets its contract: the bytes of a record are those of its fields.
 use mathlib.Core.Path.{ap, _∙_}
 use borrow.Author.Needs.{needs}
 use Rattle.wire.specs.Bytes.{overwritten}

@@ -1,4 +1,4 @@
--- `wire::put_record_at` meets its contract: the part from the place on is lent to `put_record`. Assumes nothing.
+-- `wire::put_record_at` meets its contract: the part from the place on is lent to `put_record`.
 use borrow.Author.Needs.{needs}
 use Rattle.wire.proofs.Buffer.{lent}
 use Rattle.wire.proofs.put_record_at.Statement.{statement}

@@ -1,4 +1,4 @@
--- `wire::record_at` meets its contract: the part from the place on is lent to `record_in`. Assumes nothing.
+-- `wire::record_at` meets its contract: the part from the place on is lent to `record_in`.
 use mathlib.Core.Path.{_∙_, ap}
 use borrow.Author.Needs.{needs}
 use Rattle.wire.specs.Record.{recordIn}

@@ -1,4 +1,4 @@
--- `wire::record_good` meets its contract: the fields that are judged are those of the record that the bytes stand for. Assumes nothing.
+-- `wire::record_good` meets its contract: the fields that are judged are those of the record that the bytes stand for.
 use mathlib.Core.Path.{_∙_}
 use mir.Facts.{toZ-ofZ}
 use borrow.Author.Needs.{needs, sfits-of}

@@ -1,4 +1,4 @@
--- `wire::record_in` meets its contract: the record of the fields, with their temperature. Assumes nothing.
+-- `wire::record_in` meets its contract: the record of the fields, with their temperature.
 use mathlib.Core.Path.{ap, _∙_}
 use mir.Syntax.{w16}
 use mir.Facts.{toZ-ofZ}

@@ -1,4 +1,4 @@
--- `batch::BatchRecord::none` meets its contract: it is the all-zero record, field by field. Assumes nothing.
+-- `batch::BatchRecord::none` meets its contract: it is the all-zero record, field by field.
 use borrow.Author.Needs.{needs}
 use Rattle.batch.specs.Blank.{noRecord}
 use Rattle.batch.proofs.BatchRecord.none.Statement.{statement}

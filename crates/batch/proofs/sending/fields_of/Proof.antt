@@ -1,4 +1,4 @@
--- `sending::fields_of` meets its contract: each field is the field of that name. Assumes nothing.
+-- `sending::fields_of` meets its contract: each field is the field of that name.
 use borrow.Author.Needs.{needs}
 use Rattle.batch.proofs.sending.fields_of.Statement.{statement}
 use Rattle.batch.proofs.sending.fields_of.Tie as tie

@@ -1,4 +1,4 @@
--- `sending::from_tenths` meets its contract: what the test lets pass is small enough to be ten times as many. Assumes nothing.
+-- `sending::from_tenths` meets its contract: what the test lets pass is small enough to be ten times as many.
 use mathlib.Core.Path.{_≡_, sym, ap, _∙_}
 use lib.IntN.{ℤ}
 use mir.Syntax.{w16}

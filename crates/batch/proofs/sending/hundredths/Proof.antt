@@ -1,4 +1,4 @@
--- `sending::hundredths` meets its contract, in each unit. Assumes nothing.
+-- `sending::hundredths` meets its contract, in each unit.
 use mathlib.Core.Path.{_≡_, sym, ap, _∙_}
 use mir.Syntax.{w16}
 use mir.Val.{toZ, ofZ}

@@ -1,4 +1,4 @@
--- `sending::judged` meets its contract: the record goes with its verdict where that is good. Assumes nothing.
+-- `sending::judged` meets its contract: the record goes with its verdict where that is good.
 use mathlib.Core.Path.{sym, ap, _∙_}
 use borrow.Author.Needs.{needs}
 use Rattle.refusal.proofs.Verdicts.{no-refusal}

@@ -1,4 +1,4 @@
--- `sending::make` meets its contract: 11, then the temperature in its own unit, then what send asks of the record. Assumes nothing.
+-- `sending::make` meets its contract: 11, then the temperature in its own unit, then what send asks of the record.
 use mathlib.Core.Path.{_≡_, sym, ap, _∙_}
 use lib.IntN.{ℤ}
 use mir.Syntax.{w16}

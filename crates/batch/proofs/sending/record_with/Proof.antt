@@ -1,4 +1,4 @@
--- `sending::record_with` meets its contract: each field is the field of that name. Assumes nothing.
+-- `sending::record_with` meets its contract: each field is the field of that name.
 use borrow.Author.Needs.{needs}
 use Rattle.batch.proofs.sending.record_with.Statement.{statement}
 use Rattle.batch.proofs.sending.record_with.Tie as tie

@@ -1,4 +1,4 @@
--- `sending::unsent` meets its contract: the refusal, beside the blank record. Assumes nothing.
+-- `sending::unsent` meets its contract: the refusal, beside the blank record.
 use borrow.Author.Needs.{needs}
 use Rattle.batch.proofs.sending.unsent.Statement.{statement}
 use Rattle.batch.proofs.sending.unsent.Tie as tie

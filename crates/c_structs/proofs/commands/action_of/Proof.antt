@@ -1,4 +1,4 @@
--- `commands::action_of` meets its contract: it is read off the row of the command byte. Assumes nothing.
+-- `commands::action_of` meets its contract: it is read off the row of the command byte.
 use mathlib.Core.Path.{_∙_}
 use borrow.Author.Needs.{needs}
 use Rattle.c_structs.proofs.commands.action_of.Statement.{statement}

@@ -1,4 +1,4 @@
--- `commands::command_of` meets its contract: the command byte and the operands are those of the tape's table. Assumes nothing.
+-- `commands::command_of` meets its contract: the command byte and the operands are those of the tape's table.
 use mathlib.Core.Path.{_∙_}
 use borrow.Author.Needs.{needs}
 use Rattle.c_structs.proofs.commands.command_of.Statement.{statement}

@@ -1,4 +1,4 @@
--- `commands::known_by` meets its contract: by cases of the shape. Assumes nothing.
+-- `commands::known_by` meets its contract: by cases of the shape.
 use borrow.Author.Needs.{needs}
 use Rattle.c_structs.proofs.commands.known_by.Statement.{statement}
 use Rattle.c_structs.proofs.commands.known_by.Tie as tie

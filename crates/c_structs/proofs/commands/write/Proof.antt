@@ -1,4 +1,4 @@
--- `commands::write` meets its contract: `tape::write` says what is written, and an unknown command byte writes nothing. Assumes nothing.
+-- `commands::write` meets its contract: `tape::write` says what is written, and an unknown command byte writes nothing.
 use mathlib.Core.Path.{_≡_, sym, ap, _∙_}
 use Prim.Native.Nat.{ℕ}
 use mathlib.Core.List.{List}

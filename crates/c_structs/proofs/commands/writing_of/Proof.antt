@@ -1,4 +1,4 @@
--- `commands::writing_of` meets its contract. Assumes nothing.
+-- `commands::writing_of` meets its contract.
 use mathlib.Core.Path.{_∙_}
 use borrow.Author.Needs.{needs}
 use Rattle.c_structs.proofs.commands.writing_of.Statement.{statement}

@@ -1,4 +1,4 @@
--- `c_structs::tables::figures_in` meets its contract. Assumes nothing.
+-- `c_structs::tables::figures_in` meets its contract.
 use mathlib.Core.Path.{sym, ap, _∙_}
 use mir.Syntax.{w16, w32}
 use mir.Facts.{toZ-ofZ}

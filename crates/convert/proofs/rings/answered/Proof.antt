@@ -1,4 +1,4 @@
--- `rings::answered` meets its contract: no record stands beside the answer. Assumes nothing.
+-- `rings::answered` meets its contract: no record stands beside the answer.
 use borrow.Author.Needs.{needs}
 use Rattle.convert.proofs.rings.answered.Statement.{statement}
 use Rattle.convert.proofs.rings.answered.Tie as tie

@@ -1,4 +1,4 @@
--- `rings::turn_records` meets its contract: each turn of the loop turns one record (RingBytes.antt). Assumes nothing.
+-- `rings::turn_records` meets its contract: each turn of the loop turns one record (RingBytes.antt).
 use Prim.Native.Nat.{ℕ, suc, _+_, _-_, _<_, _≤_}
 use mathlib.Core.Path.{_≡_, refl, sym, ap, _∙_}
 use mathlib.Core.List.{List}

@@ -1,4 +1,4 @@
--- `rings::turned` meets its contract: the tests of the code are those of the definition (RingTurned.antt). Assumes nothing.
+-- `rings::turned` meets its contract: the tests of the code are those of the definition (RingTurned.antt).
 use Prim.Native.Nat.{ℕ}
 use mathlib.Core.Path.{_≡_, sym, ap, _∙_}
 use mathlib.Core.Bool.{Bool, true, false}

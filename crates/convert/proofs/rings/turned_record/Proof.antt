@@ -1,4 +1,4 @@
--- `rings::turned_record` meets its contract: the record of its fields, with its temperature turned. Assumes nothing.
+-- `rings::turned_record` meets its contract: the record of its fields, with its temperature turned.
 use mathlib.Core.Path.{ap, _∙_}
 use mir.Syntax.{w16}
 use mir.Facts.{toZ-ofZ}

@@ -1,5 +1,5 @@
 -- `tables::all_in_tenths` meets its contract. The invariant: all cells are temperatures in tenths exactly when those passed were and those to
--- come are. Assumes nothing.
+-- come are.
 use mathlib.Core.Path.{_≡_, refl, sym, ap, _∙_}
 use mathlib.Core.Bool.{_&&_}
 use mathlib.Core.Logic.{⊎-elim}

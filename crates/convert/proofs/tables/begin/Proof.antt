@@ -1,4 +1,4 @@
--- `tables::begin` meets its contract. Assumes nothing.
+-- `tables::begin` meets its contract.
 use borrow.Author.Needs.{needs}
 use Rattle.convert.proofs.tables.begin.Statement.{statement}
 use Rattle.convert.proofs.tables.begin.Tie as tie

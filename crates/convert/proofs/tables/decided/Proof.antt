@@ -1,4 +1,4 @@
--- `tables::decided` meets its contract: each test settles a part. Assumes nothing.
+-- `tables::decided` meets its contract: each test settles a part.
 use mathlib.Core.Path.{sym}
 use borrow.Author.Needs.{needs}
 use borrow.Author.Tests.{not-true, not-false}

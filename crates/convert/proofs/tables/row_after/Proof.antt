@@ -1,4 +1,4 @@
--- `tables::row_after` meets its contract. Assumes nothing.
+-- `tables::row_after` meets its contract.
 use borrow.Author.Needs.{needs}
 use Rattle.convert.proofs.tables.row_after.Statement.{statement}
 use Rattle.convert.proofs.tables.row_after.Tie as tie

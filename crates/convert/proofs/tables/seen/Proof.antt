@@ -1,4 +1,4 @@
--- `tables::seen` meets its contract: each part of what is kept is a call's. Assumes nothing.
+-- `tables::seen` meets its contract: each part of what is kept is a call's.
 use borrow.Author.Needs.{needs}
 use Rattle.convert.proofs.tables.seen.Statement.{statement}
 use Rattle.convert.proofs.tables.seen.Tie as tie

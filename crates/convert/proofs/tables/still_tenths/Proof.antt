@@ -1,4 +1,4 @@
--- `tables::still_tenths` meets its contract. Assumes nothing.
+-- `tables::still_tenths` meets its contract.
 use borrow.Author.Needs.{needs}
 use Rattle.convert.proofs.tables.still_tenths.Statement.{statement}
 use Rattle.convert.proofs.tables.still_tenths.Tie as tie

@@ -1,5 +1,5 @@
 -- `tables::turn_table` meets its contract: it goes over a lent slice, decides once and rewrites every element (Sweeping.antt of `lent`), and
--- what it does is what the definition says (TablePassed.antt). Assumes nothing.
+-- what it does is what the definition says (TablePassed.antt).
 use mathlib.Core.List.{[]}
 use base.Logic.{emp}
 use contract.Monad.{factI}

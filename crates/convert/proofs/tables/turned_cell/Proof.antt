@@ -1,4 +1,4 @@
--- `tables::turned_cell` meets its contract: a cell is turned exactly where it is a temperature in tenths. Assumes nothing.
+-- `tables::turned_cell` meets its contract: a cell is turned exactly where it is a temperature in tenths.
 use mathlib.Core.Path.{_≡_, sym, ap, _∙_}
 use lib.IntN.{ℤ}
 use mir.Syntax.{w16}

@@ -1,4 +1,4 @@
--- `tables::turned_cells` meets its contract. The invariant: the first `i` cells are turned. Assumes nothing.
+-- `tables::turned_cells` meets its contract. The invariant: the first `i` cells are turned.
 use mathlib.Core.Path.{_≡_, refl, sym, ap, _∙_}
 use mathlib.Core.List.{List}
 use Prim.Native.Nat.{ℕ, _-_, _≤_}

@@ -1,4 +1,4 @@
--- `tables::turned_row` meets its contract. Assumes nothing.
+-- `tables::turned_row` meets its contract.
 use borrow.Author.Needs.{needs}
 use Rattle.convert.proofs.tables.turned_row.Statement.{statement}
 use Rattle.convert.proofs.tables.turned_row.Tie as tie

@@ -1,4 +1,4 @@
--- `messages::blank::all_four` meets its contract: what the loop joined is 0 exactly when every cell passed is (proofs/Loops). Assumes nothing.
+-- `messages::blank::all_four` meets its contract: what the loop joined is 0 exactly when every cell passed is (proofs/Loops).
 use Prim.Native.Nat.{ℕ, _-_, _<_}
 use mathlib.Core.Path.{_≡_, refl}
 use mathlib.Core.List.{List}

@@ -1,4 +1,4 @@
--- `messages::blank::from` meets its contract: the parts that are lent leave no cell out. Assumes nothing.
+-- `messages::blank::from` meets its contract: the parts that are lent leave no cell out.
 use Prim.Native.Nat.{_+_, _-_, _/_, _≤_}
 use mathlib.Core.Path.{refl}
 use native.Mathlib.Omega.{arith}

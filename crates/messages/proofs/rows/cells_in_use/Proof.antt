@@ -1,4 +1,4 @@
--- `messages::rows::cells_in_use` meets its contract: the loop adds up 1 for each cell that is not zero (proofs/Loops). Assumes nothing.
+-- `messages::rows::cells_in_use` meets its contract: the loop adds up 1 for each cell that is not zero (proofs/Loops).
 use Prim.Native.Nat.{_-_, min}
 use mathlib.Core.Logic.{⊎-elim}
 use native.Mathlib.Omega.{arith}

@@ -1,4 +1,4 @@
--- `messages::rows::mark` meets its contract. The invariant: the table is the one after the rows passed. Assumes nothing.
+-- `messages::rows::mark` meets its contract. The invariant: the table is the one after the rows passed.
 use Prim.Native.Nat.{_-_, _≤_}
 use mathlib.Core.Path.{_≡_, _∙_}
 use mathlib.Core.Option.{some}

@@ -1,5 +1,5 @@
 -- `messages::rows::mark_cells` meets its contract. The invariant (`Passing`): what the cells to come do from the table as it is is what
--- all the cells do from the table at first. Assumes nothing.
+-- all the cells do from the table at first.
 use Prim.Native.Nat.{_-_, _<_}
 use mathlib.Core.Path.{_≡_}
 use mathlib.Core.Option.{none}

@@ -1,4 +1,4 @@
--- `messages::rows::mark_row` meets its contract: the count of the cells in use, then the pass over them. Assumes nothing.
+-- `messages::rows::mark_row` meets its contract: the count of the cells in use, then the pass over them.
 use mathlib.Core.Path.{_≡_, sym, _∙_}
 use native.Mathlib.Omega.{arith}
 use lib.Seq.{length-take-le}

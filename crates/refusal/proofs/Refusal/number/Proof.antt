@@ -1,5 +1,4 @@
 -- `refusal::Refusal::number` meets its contract: in each arm of the `match` the refusal is the arm's, and so is its number.
--- Assumes nothing.
 use mathlib.Core.Path.{_≡_, sym, ap}
 use borrow.Author.Needs.{needs}
 use Rattle.refusal.specs.declared.Refusal.{Refusal}

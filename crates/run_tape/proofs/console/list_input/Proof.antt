@@ -1,4 +1,4 @@
--- `console::list_input` is safe and ends: the tape that was read lies within the buffer. Assumes nothing.
+-- `console::list_input` is safe and ends: the tape that was read lies within the buffer.
 use Prim.Native.Nat.{_≤_}
 use mathlib.Core.Path.{sym}
 use borrow.Author.Needs.{needs}

@@ -1,4 +1,4 @@
--- `console::print_listing` is safe and ends: each run of the tape leaves fewer bytes of the listing to come. Assumes nothing.
+-- `console::print_listing` is safe and ends: each run of the tape leaves fewer bytes of the listing to come.
 use Prim.Native.Nat.{ℕ, _≤_}
 use mathlib.Core.Path.{_≡_, sym, _∙_}
 use mathlib.Core.List.{List}

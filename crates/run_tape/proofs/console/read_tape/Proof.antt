@@ -1,4 +1,4 @@
--- `console::read_tape` meets its contract: what was read lies within the buffer, and each turn leaves less of it. Assumes nothing.
+-- `console::read_tape` meets its contract: what was read lies within the buffer, and each turn leaves less of it.
 use Prim.Native.Nat.{_≤_, _-_}
 use mathlib.Core.Path.{_≡_}
 use borrow.Author.Needs.{needs}

@@ -1,4 +1,4 @@
--- `runner::Session::begin` meets its contract: a fresh ring, and the counts as they begin. Assumes nothing.
+-- `runner::Session::begin` meets its contract: a fresh ring, and the counts as they begin.
 use borrow.Author.Needs.{needs}
 use Rattle.runner.proofs.Session.begin.Statement.{statement}
 use Rattle.runner.proofs.Session.begin.Tie as tie

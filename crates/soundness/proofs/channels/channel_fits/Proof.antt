@@ -1,4 +1,4 @@
--- `soundness::channels::channel_fits` meets its contract. Assumes nothing.
+-- `soundness::channels::channel_fits` meets its contract.
 use borrow.Author.Needs.{needs}
 use Rattle.messages.proofs.Decides.{restated, decides-less, decides-and}
 use Rattle.soundness.proofs.InUse.{decides-either, decides-nothing}

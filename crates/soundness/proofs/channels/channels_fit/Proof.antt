@@ -1,4 +1,4 @@
--- `soundness::channels::channels_fit` meets its contract: the loop counts the channels that do not fit (proofs/InUse). Assumes nothing.
+-- `soundness::channels::channels_fit` meets its contract: the loop counts the channels that do not fit (proofs/InUse).
 use Prim.Native.Nat.{ℕ, _-_}
 use mathlib.Core.Path.{refl}
 use mathlib.Core.Bool.{Bool}

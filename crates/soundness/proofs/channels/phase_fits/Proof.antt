@@ -1,5 +1,5 @@
 -- `soundness::channels::phase_fits` meets its contract: the test says that the channel rests without an offer, or that the ring has
--- started, phase and offer are known, and it is not ready with an offer. Assumes nothing.
+-- started, phase and offer are known, and it is not ready with an offer.
 use mathlib.Core.Logic.{⊎-elim, inl, inr}
 use native.Mathlib.Omega.{arith}
 use Rattle.network.proofs.Ground.Splits.{by-test, by-same, both-ways}

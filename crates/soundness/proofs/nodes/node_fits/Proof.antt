@@ -1,4 +1,4 @@
--- `soundness::nodes::node_fits` meets its contract. Assumes nothing.
+-- `soundness::nodes::node_fits` meets its contract.
 use borrow.Author.Needs.{needs}
 use Rattle.soundness.proofs.InUse.{decides-nothing}
 use Rattle.soundness.proofs.nodes.node_fits.Statement.{statement}

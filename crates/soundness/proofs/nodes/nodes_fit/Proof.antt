@@ -1,4 +1,4 @@
--- `soundness::nodes::nodes_fit` meets its contract: the loop counts the nodes that do not fit (proofs/InUse). Assumes nothing.
+-- `soundness::nodes::nodes_fit` meets its contract: the loop counts the nodes that do not fit (proofs/InUse).
 use Prim.Native.Nat.{ℕ, _-_}
 use mathlib.Core.Path.{refl}
 use mathlib.Core.Bool.{Bool}

@@ -1,4 +1,4 @@
--- `soundness::nodes::used_node` meets its contract: each test settles a part of the statement. Assumes nothing.
+-- `soundness::nodes::used_node` meets its contract: each test settles a part of the statement.
 use mathlib.Core.Path.{_≡_, ap}
 use native.Mathlib.Omega.{arith}
 use borrow.Author.Needs.{needs}

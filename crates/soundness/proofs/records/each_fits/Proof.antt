@@ -1,4 +1,4 @@
--- `soundness::records::each_fits` meets its contract: the loop counts the records that do not fit (messages/proofs/Loops). Assumes nothing.
+-- `soundness::records::each_fits` meets its contract: the loop counts the records that do not fit (messages/proofs/Loops).
 use Prim.Native.Nat.{ℕ, _-_}
 use mathlib.Core.List.{List}
 use native.Mathlib.Omega.{arith}

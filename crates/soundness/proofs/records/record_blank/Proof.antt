@@ -1,5 +1,5 @@
 -- `soundness::records::record_blank` meets its contract. The invariant: the words passed were zero, so all bytes are zero exactly when
--- those to come are. Assumes nothing.
+-- those to come are.
 use Prim.Native.Nat.{ℕ, _*_, _-_, _≤_}
 use mathlib.Core.Path.{_≡_, refl, sym, ap, _∙_}
 use native.Mathlib.Omega.{arith}

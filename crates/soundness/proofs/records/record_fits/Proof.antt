@@ -1,5 +1,4 @@
--- `soundness::records::record_fits` meets its contract: a record that is there is judged in its bytes, and else they are zero. Assumes
--- nothing.
+-- `soundness::records::record_fits` meets its contract: a record that is there is judged in its bytes, and else they are zero.
 use borrow.Author.Needs.{needs}
 use Rattle.soundness.proofs.RecordBytes.{decides-there, decides-absent}
 use Rattle.soundness.proofs.records.record_fits.Statement.{statement}

@@ -1,4 +1,4 @@
--- `soundness::records::records_fit` meets its contract: its tests are the parts of the statement. Assumes nothing.
+-- `soundness::records::records_fit` meets its contract: its tests are the parts of the statement.
 use borrow.Author.Needs.{needs}
 use Rattle.messages.proofs.Decides.{says-no, restated, refused, granted}
 use Rattle.soundness.proofs.records.records_fit.Statement.{statement}

@@ -1,4 +1,4 @@
--- `updates::answer::accept` meets its contract: the record beside the answer is the blank one. Assumes nothing.
+-- `updates::answer::accept` meets its contract: the record beside the answer is the blank one.
 use borrow.Author.Needs.{needs}
 use Rattle.updates.proofs.answer.accept.Statement.{statement}
 use Rattle.updates.proofs.answer.accept.Tie as tie

@@ -1,4 +1,4 @@
--- `updates::opening::after_start` meets its contract: its own test, and then that of `in_count`. Assumes nothing.
+-- `updates::opening::after_start` meets its contract: its own test, and then that of `in_count`.
 use borrow.Author.Needs.{needs}
 use borrow.Author.Tests.{eq-eqb, ne-eqb}
 use Rattle.updates.proofs.opening.after_start.Statement.{statement}

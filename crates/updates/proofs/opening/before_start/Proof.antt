@@ -1,4 +1,4 @@
--- `updates::opening::before_start` meets its contract by its one test. Assumes nothing.
+-- `updates::opening::before_start` meets its contract by its one test.
 use borrow.Author.Tests.{eq-eqb, ne-eqb}
 use Rattle.updates.proofs.opening.before_start.Statement.{statement}
 use Rattle.updates.proofs.opening.before_start.Tie as tie

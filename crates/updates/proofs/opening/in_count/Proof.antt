@@ -1,4 +1,4 @@
--- `updates::opening::in_count` meets its contract by its one test. Assumes nothing.
+-- `updates::opening::in_count` meets its contract by its one test.
 use borrow.Author.Tests.{lt-ltb, le-ltb}
 use Rattle.updates.proofs.opening.in_count.Statement.{statement}
 use Rattle.updates.proofs.opening.in_count.Tie as tie

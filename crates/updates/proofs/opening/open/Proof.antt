@@ -1,5 +1,4 @@
 -- `updates::opening::open` meets its contract: an unsound ring is refused, and of a sound one the subject says which tests are made.
--- Assumes nothing.
 use mathlib.Core.Path.{_≡_, refl, sym, _∙_}
 use mathlib.Core.Bool.{true}
 use mathlib.Core.List.{[], _∷_}

@@ -1,4 +1,4 @@
--- `wire::fields::from_bits` meets its contract: by the half in which the bits lie. Assumes nothing.
+-- `wire::fields::from_bits` meets its contract: by the half in which the bits lie.
 use native.Mathlib.Omega.{arith}
 use borrow.Author.Needs.{needs}
 use borrow.Author.Tests.{lt-ltb}

@@ -1,4 +1,4 @@
--- `wire::fields::i16_at` meets its contract. Assumes nothing.
+-- `wire::fields::i16_at` meets its contract.
 use mathlib.Core.Path.{_∙_, ap}
 use borrow.Author.Needs.{needs}
 use mir.Facts.{toZ-ofZ}

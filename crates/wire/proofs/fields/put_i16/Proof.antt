@@ -1,4 +1,4 @@
--- `wire::fields::put_i16` meets its contract: the bits of the number, as 16 bits. Assumes nothing.
+-- `wire::fields::put_i16` meets its contract: the bits of the number, as 16 bits.
 use mathlib.Core.Path.{_∙_}
 use borrow.Author.Needs.{needs}
 use mir.Facts.{toZ-ofZ}

@@ -1,4 +1,4 @@
--- `wire::fields::put_pair` meets its contract: the second byte goes to the part that is lent. Assumes nothing.
+-- `wire::fields::put_pair` meets its contract: the second byte goes to the part that is lent.
 use borrow.Author.Needs.{needs}
 use Rattle.wire.specs.Bytes.{little}
 use Rattle.wire.proofs.Buffer.{next}

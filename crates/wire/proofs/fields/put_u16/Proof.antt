@@ -1,4 +1,4 @@
--- `wire::fields::put_u16` meets its contract: the low byte, and then the high one. Assumes nothing.
+-- `wire::fields::put_u16` meets its contract: the low byte, and then the high one.
 use mathlib.Core.Path.{_∙_, ap}
 use borrow.Author.Needs.{needs}
 use Rattle.wire.specs.Bytes.{overwritten}

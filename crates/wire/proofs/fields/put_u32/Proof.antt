@@ -1,4 +1,4 @@
--- `wire::fields::put_u32` meets its contract: the low half, and then the high one in the part that is lent. Assumes nothing.
+-- `wire::fields::put_u32` meets its contract: the low half, and then the high one in the part that is lent.
 use Prim.Native.Nat.{_%_, _/_}
 use mathlib.Core.Path.{_∙_, ap}
 use borrow.Author.Needs.{needs}

@@ -1,4 +1,4 @@
--- `wire::fields::put_u8` meets its contract: a store at the front. Assumes nothing.
+-- `wire::fields::put_u8` meets its contract: a store at the front.
 use Prim.Native.Nat.{_%_}
 use mathlib.Core.Path.{_≡_}
 use native.Mathlib.Omega.{arith}

@@ -1,4 +1,4 @@
--- `wire::fields::to_bits` meets its contract: by the sign. Assumes nothing.
+-- `wire::fields::to_bits` meets its contract: by the sign.
 use mathlib.Core.Path.{_≡_, sym, _∙_}
 use native.Mathlib.Omega.{arith}
 use lib.IntN.{negsuc, pos, _-ℤ_}

@@ -1,4 +1,4 @@
--- `wire::fields::u16_at` meets its contract: a low byte and a high one. Assumes nothing.
+-- `wire::fields::u16_at` meets its contract: a low byte and a high one.
 use borrow.Author.Needs.{needs}
 use Rattle.wire.proofs.Numbers.{number-joined}
 use Rattle.wire.proofs.fields.u16_at.Statement.{statement}

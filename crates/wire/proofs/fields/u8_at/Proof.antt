@@ -1,4 +1,4 @@
--- `wire::fields::u8_at` meets its contract. Assumes nothing.
+-- `wire::fields::u8_at` meets its contract.
 use mathlib.Core.Path.{sym}
 use borrow.Author.Needs.{needs}
 use Rattle.wire.proofs.Numbers.{number-one}

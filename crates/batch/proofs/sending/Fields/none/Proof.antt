@@ -1,4 +1,4 @@
--- `Fields::none` meets its contract: the fields of the blank record. Assumes nothing.
+-- `Fields::none` meets its contract: the fields of the blank record.
 use mathlib.Core.Path.{ap, _∙_}
 use borrow.Author.Needs.{needs}
 use Rattle.batch.specs.Sending.{fieldsOf, noFields}
