@@ -13,8 +13,8 @@ use Rattle.network.specs.Calls
 use Rattle.network.specs.Runs.{call}
 use Rattle.network.specs.Layout.{ringLimits}
 use Rattle.network.specs.Answers.{says, delivers, answers}
-use Rattle.network.specs.Edges.{c0}
-use Rattle.network.specs.BlankEnds.{wholeWay, wayBack}
+use Rattle.network.specs.Worked.Edges.{c0}
+use Rattle.network.specs.Worked.BlankEnds.{wholeWay, wayBack}
 use Rattle.convert.specs.TurnedRing.{channelInTenths, tenfoldRing}
 use Rattle.convert.specs.RingExamples.{warm, offering, carrying, holding}
 

@@ -17,7 +17,7 @@ use Rattle.network.proofs.Ground.Splits.{and-left, and-right}
 use Rattle.network.proofs.Lists.Clauses.{facts}
 use Rattle.network.proofs.Memory.Held.{Fits, CarriedFits, view-hold, held-laid-out, sound-fits, sound-hold, hold-fresh}
 use Rattle.network.proofs.Promises.BlankEnds.{held-answers}
-use Rattle.network.specs.BlankEnds.{wholeWay, wayBack}
+use Rattle.network.specs.Worked.BlankEnds.{wholeWay, wayBack}
 use Rattle.convert.specs.TurnedRing.{tenfoldPhase, tenfoldRing, offerInTenths, phaseInTenths, channelInTenths, soundInTenths, turnRing, TurnedSound, TurnsHeld}
 use Rattle.convert.specs.RingExamples.{offering, carrying, Turned, TurnsTo, NotSound, Says25}
 use Rattle.convert.proofs.RingBytes.{with-temperature}

@@ -11,8 +11,8 @@ use Rattle.network.specs.Calls.{done, refused, accepted}
 use Rattle.network.specs.Runs.{call, run}
 use Rattle.network.specs.Layout.{ringLimits, hold, freshRing, callRing}
 use Rattle.network.specs.Answers.{says, delivers, answers}
-use Rattle.network.specs.Edges.{c0, sample}
-use Rattle.network.specs.BlankEnds.{requested, responded, wholeWay, wayBack}
+use Rattle.network.specs.Worked.Edges.{c0, sample}
+use Rattle.network.specs.Worked.BlankEnds.{requested, responded, wholeWay, wayBack}
 use Rattle.convert.specs.TurnedRing.{turnRing}
 
 -- a record with this temperature

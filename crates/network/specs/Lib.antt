@@ -14,10 +14,4 @@ pub mod Answers
 pub mod Promise
 pub mod Dispatcher
 pub mod Commute
-pub mod Edges
-pub mod Withdrawals
-pub mod BlankEnds
-pub mod Hundredths
-pub mod Rounds
-pub mod Pairs
-pub mod Dummies
+pub mod Worked

@@ -18,8 +18,8 @@ use Rattle.network.specs.Calls
 use Rattle.network.specs.Runs.{Call, addNode, addChannel, start, receive, send, enter, move, withdraw, hopsLeft, waitingSet, sentOn, call, after, run, offeredBy, offeredOn, deliveredOn}
 use Rattle.network.specs.Layout.{ringLimits, view, hold, freshRing, soundRing, callRing}
 use Rattle.network.specs.Answers.{answers}
-use Rattle.network.specs.BlankEnds.{oldOffer, oldCarried, wholeWay, wayBack, Row, sends, answered, RingBlanks, HoldsAsWell, StillSound, StillServed, NoneDelivered}
-use Rattle.network.proofs.Ground.BlankEnds as lists
+use Rattle.network.specs.Worked.BlankEnds.{oldOffer, oldCarried, wholeWay, wayBack, Row, sends, answered, RingBlanks, HoldsAsWell, StillSound, StillServed, NoneDelivered}
+use Rattle.network.proofs.Worked.BlankEnds as lists
 use Rattle.network.proofs.Ground.Splits.{by-test, both-ways, and-left}
 use Rattle.network.proofs.Ground.Joined.{ready-is}
 use Rattle.network.proofs.Theory.State.{Sound, turn}

@@ -1,5 +1,5 @@
 -- Entries and moves that touch no common node commute (specs/Commute): of the ring in memory, on which the lists' own calls are laid out, and
--- so of code that meets the contracts; and the worked pairs (specs/Pairs), computed on the ring apart from its layout.
+-- so of code that meets the contracts; and the worked pairs (specs/Worked/Pairs), computed on the ring apart from its layout.
 use Prim.Native.Nat.{ℕ}
 use mathlib.Core.Path.{_≡_, refl, sym, ap, subst, _∙_}
 use mathlib.Core.Logic.{inl, inr}
@@ -21,11 +21,11 @@ use Rattle.network.specs.Layout.{ringLimits, view, hold, freshRing, soun
 use Rattle.network.specs.Answers.{replyOf, deliveredIn, Said, answers}
 use Rattle.network.specs.Promise.{MeetsContracts}
 use Rattle.network.specs.Dispatch.{listed}
-use Rattle.network.specs.Edges.{n0, n1, n2}
-use Rattle.network.specs.Withdrawals.{ringAfter}
+use Rattle.network.specs.Worked.Edges.{n0, n1, n2}
+use Rattle.network.specs.Worked.Withdrawals.{ringAfter}
 use Rattle.network.specs.Commute.{Traffic, moveAt, asCall, Apart, Commute, RingCommutes, RefusedThere, CodeCommutes, ContractsCommute}
-use Rattle.network.specs.Pairs.{turnCase, arriving, meeting, standsTwice, EitherWay, OrderMatters, RingPairs, SoundMatters}
-use Rattle.network.proofs.Ground.AtTwoEnds.{turning, turn-case, moves-apart, worked-pairs, made-by-hand}
+use Rattle.network.specs.Worked.Pairs.{turnCase, arriving, meeting, standsTwice, EitherWay, OrderMatters, RingPairs, SoundMatters}
+use Rattle.network.proofs.Worked.AtTwoEnds.{turning, turn-case, moves-apart, worked-pairs, made-by-hand}
 use Rattle.network.proofs.Ground.Splits.{by-test}
 use Rattle.network.proofs.Lists.Clauses.{sound-started}
 use Rattle.network.proofs.Lists.Commute.{not-started, beyond-refused, started-commute}

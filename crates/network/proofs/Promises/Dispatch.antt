@@ -19,7 +19,7 @@ use Rattle.network.specs.Runs.{Call, enter, move, call, after, isAccepte
 use Rattle.network.specs.Layout.{ringLimits, view, freshRing, soundRing, callRing}
 use Rattle.network.specs.Demand.{checkedCall}
 use Rattle.network.specs.Dispatch.{round, onRing, still, handedBy, deliveries, roundsMade, spelled, Dispatches, DispatcherKeeps}
-use Rattle.network.specs.Rounds.{NoneTooMany}
+use Rattle.network.specs.Worked.Rounds.{NoneTooMany}
 use Rattle.network.proofs.Ground.Splits.{by-test, by-same}
 use Rattle.network.proofs.Ground.Counting.{sum-some, one-most}
 use Rattle.network.proofs.Theory.Stall.{no-stall}

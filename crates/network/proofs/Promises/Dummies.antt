@@ -27,8 +27,8 @@ use Rattle.network.specs.Layout.{ringLimits, view, hold, holdHead, heldO
 use Rattle.network.specs.Answers.{Said, saidIn, says, outcomeNumber, outcomeOf, stepOf}
 use Rattle.network.specs.Demand.{InTime, UnderWay}
 use Rattle.network.specs.Promise.{MeetsContracts}
-use Rattle.network.specs.Edges.{n0, n1, c0, workedRecord}
-use Rattle.network.specs.Dummies.{Way, truly, actsLaterLaps, grudgesSlots, invents, movesNothing, turnsDown, alwaysSays, begun, inLine, inBuffer, firstLap, secondLap, broken, checkedRing, asCode, Exposed, Demand2Rejects, ServedBy, InOrderBy, Demand3Rejects, elevenLaps, pastTheBound, EachCanFail, SevenCounted}
+use Rattle.network.specs.Worked.Edges.{n0, n1, c0, workedRecord}
+use Rattle.network.specs.Worked.Dummies.{Way, truly, actsLaterLaps, grudgesSlots, invents, movesNothing, turnsDown, alwaysSays, begun, inLine, inBuffer, firstLap, secondLap, broken, checkedRing, asCode, Exposed, Demand2Rejects, ServedBy, InOrderBy, Demand3Rejects, elevenLaps, pastTheBound, EachCanFail, SevenCounted}
 use Rattle.network.proofs.Memory.Held.{sound-view, sound-hold}
 use Rattle.network.proofs.Promises.Answers.{steps-keep}
 

@@ -18,7 +18,7 @@ use Rattle.network.specs.Runs.{Call, addNode, start, call, run, counted,
 use Rattle.network.specs.Layout.{ringLimits, view, freshRing, soundRing, callRing}
 use Rattle.network.specs.Answers.{outcomeNumber, says, answers}
 use Rattle.network.specs.Demand.{AsDefined}
-use Rattle.network.specs.Edges.{plan, Question, starting, hopsFrom, naming, heating, slotting, counting, Edge, ask, edges, EdgesHold, workedCalls, WorkedRunHolds, turnCalls, TurnHolds}
+use Rattle.network.specs.Worked.Edges.{plan, Question, starting, hopsFrom, naming, heating, slotting, counting, Edge, ask, edges, EdgesHold, workedCalls, WorkedRunHolds, turnCalls, TurnHolds}
 use Rattle.network.proofs.Ground.Splits.{and-left, and-right}
 use Rattle.network.proofs.Memory.Held.{view-fresh}
 use Rattle.network.proofs.Promises.Machine.{counted-seen}

@@ -1,8 +1,8 @@
 -- The worked temperatures and deliveries in both units, of the ring in memory, which answers as the ring apart from its layout does
 -- (Ground/Hundredths).
 use mathlib.Core.Path.{_∙_}
-use Rattle.network.specs.Hundredths.{temperatures, twoWays, bothUnits, RingUnits}
-use Rattle.network.proofs.Ground.Hundredths as lists
+use Rattle.network.specs.Worked.Hundredths.{temperatures, twoWays, bothUnits, RingUnits}
+use Rattle.network.proofs.Worked.Hundredths as lists
 use Rattle.network.proofs.Promises.Edges.{answers-after}
 use Rattle.network.proofs.Promises.BlankEnds.{rows-answer}
 

@@ -1,4 +1,4 @@
--- The worked rounds and acts of the ring in memory (specs/Rounds): computed on the ring apart from its layout (Computed), which makes
+-- The worked rounds and acts of the ring in memory (specs/Worked/Rounds): computed on the ring apart from its layout (Worked), which makes
 -- the same rounds with the same calls and deliveries.
 use Prim.Native.Nat.{ℕ}
 use mathlib.Core.Path.{_≡_, refl, sym, ap, _∙_}
@@ -13,11 +13,11 @@ use Rattle.network.specs.Calls.{Delivery, unless}
 use Rattle.network.specs.Runs.{Call, call, run}
 use Rattle.network.specs.Layout.{ringLimits, view, freshRing, soundRing, callRing}
 use Rattle.network.specs.Dispatch.{Told, toldIn, round, onRing, deliveries, notRun, ran, afterDispatch, Act, single, dispatch, dispatched, afterAct, actDeliveries, standsFor, spelledOut}
-use Rattle.network.specs.Edges.{c0}
-use Rattle.network.specs.Withdrawals.{matchedPair}
-use Rattle.network.specs.Rounds.{backward, bare, forward, leaves, WorkedRounds, RoundsTold, WorkedActs, ActsSpelled, RingRounds}
+use Rattle.network.specs.Worked.Edges.{c0}
+use Rattle.network.specs.Worked.Withdrawals.{matchedPair}
+use Rattle.network.specs.Worked.Rounds.{backward, bare, forward, leaves, WorkedRounds, RoundsTold, WorkedActs, ActsSpelled, RingRounds}
 use Rattle.network.proofs.Ground.Splits.{by-test}
-use Rattle.network.proofs.Promises.Computed
+use Rattle.network.proofs.Worked.Rounds as Worked
 use Rattle.network.proofs.Promises.Machine.{run-sound, run-seen, deliveries-seen}
 use Rattle.network.proofs.Promises.Demand.{ring-machine}
 use Rattle.network.proofs.Promises.Acts.{act-ring, acts-spelled}
@@ -116,7 +116,7 @@ none-made ring =
 
 rounds-told : RoundsTold freshRing soundRing view callRing
 rounds-told =
-    let r = Computed.rounds-told in
+    let r = Worked.rounds-told in
     record {
       not-started = worked _ (r .not-started);
       nothing-asked = worked _ (r .nothing-asked);
@@ -137,7 +137,7 @@ rounds-told =
 
 acts-told : ActsSpelled freshRing soundRing view callRing
 acts-told =
-    let r = Computed.acts-spelled in
+    let r = Worked.acts-spelled in
     record {
       pair = acted _ (r .pair);
       pair-answers = answers-after matchedPair (times 2 (round 2)) ∙ r .pair-answers;
@@ -154,5 +154,5 @@ ring-rounds =
       rounds-told = rounds-told;
       none-too-many = machine-none-too-many ringLimits freshRing soundRing view callRing ring-machine;
       acts-spelled = acts-told;
-      refuses-rounds = Computed.refuses-rounds freshRing soundRing view callRing;
+      refuses-rounds = Worked.refuses-rounds freshRing soundRing view callRing;
     }

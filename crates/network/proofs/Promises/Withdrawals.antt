@@ -1,5 +1,5 @@
 -- The worked lists of calls with withdrawals, computed on the ring apart from its layout, which answers and counts as the ring in memory
--- does (those of deeds are in Ground/Deeds); what 28 means; and a matched pair that is withdrawn, of which neither case of `Served` holds.
+-- does (those of deeds are in Worked/Deeds); what 28 means; and a matched pair that is withdrawn, of which neither case of `Served` holds.
 use Prim.Native.Nat.{ℕ, zero, suc}
 use mathlib.Core.Path.{_≡_, refl, sym, ap, _∙_}
 use mathlib.Core.Bool.{false, _||_, false≢true}
@@ -17,9 +17,9 @@ use Rattle.network.specs.Calls
 use Rattle.network.specs.Runs.{Call, enter, move, withdraw, call, run, isAccepted, counted, bound}
 use Rattle.network.specs.Layout.{ringLimits}
 use Rattle.network.specs.Answers.{Said, answers}
-use Rattle.network.specs.Edges.{n0, c0, workedRecord}
-use Rattle.network.specs.Dummies.{begun, inLine}
-use Rattle.network.specs.Withdrawals.{WorkedList, WorkedCount, matchedPair, threeHere, fromBetween, WithdrawalsAnswer, CallsCounted, Means28, ExceptionNeeded}
+use Rattle.network.specs.Worked.Edges.{n0, c0, workedRecord}
+use Rattle.network.specs.Worked.Dummies.{begun, inLine}
+use Rattle.network.specs.Worked.Withdrawals.{WorkedList, WorkedCount, matchedPair, threeHere, fromBetween, WithdrawalsAnswer, CallsCounted, Means28, ExceptionNeeded}
 use Rattle.network.proofs.Ground.Joined.{asking-is}
 use Rattle.network.proofs.Theory.Place.{not-in-line, not-in-both}
 use Rattle.network.proofs.Lists.Tables.{netOf}

@@ -21,8 +21,8 @@ use Rattle.network.specs.Runs.{Call, receive, send, enter, move, withdra
 use Rattle.network.specs.Layout.{ringLimits, view, hold, freshRing, soundRing, callRing}
 use Rattle.network.specs.Answers.{says, delivers, outcomeNumber, answers}
 use Rattle.network.specs.Demand.{InTime, UnderWay}
-use Rattle.network.specs.Edges.{ends, plan, n0, n1, c0, c1, sample}
-use Rattle.network.specs.Withdrawals.{oneWay}
+use Rattle.network.specs.Worked.Edges.{ends, plan, n0, n1, c0, c1, sample}
+use Rattle.network.specs.Worked.Withdrawals.{oneWay}
 
 -- a record with a name of so many bytes: these stand in its first cells, zeros in the rest
 abbrev pub named : ℕ → List ℕ → BatchRecord

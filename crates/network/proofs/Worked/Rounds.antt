@@ -1,4 +1,4 @@
--- The worked rounds and acts, computed on the ring apart from its layout, and what a refused dispatcher call tells and stands for.
+-- Worked. The rounds and acts, computed on the ring apart from its layout, and what a refused dispatcher call tells and stands for.
 -- They stand before all that is shown of the dispatcher, so that a wrong one is told by its example.
 use mathlib.Core.Path.{refl}
 use mathlib.Core.Bool.{Bool, true}
@@ -10,7 +10,7 @@ use Rattle.network.specs.Calls.{Outcome, arrival}
 use Rattle.network.specs.Calls
 use Rattle.network.specs.Runs.{Call, call}
 use Rattle.network.specs.Layout.{ringLimits}
-use Rattle.network.specs.Rounds.{RoundsTold, ActsSpelled, RefusesRounds}
+use Rattle.network.specs.Worked.Rounds.{RoundsTold, ActsSpelled, RefusesRounds}
 
 -- the test for 25 is left out here: the rings of the examples are sound
 

@@ -15,9 +15,9 @@ use Rattle.network.specs.Calls.{Outcome}
 use Rattle.network.specs.Runs.{Call, receive, enter, move, run}
 use Rattle.network.specs.Layout.{freshRing, callRing}
 use Rattle.network.specs.Answers.{actionCall, says, delivers, answers}
-use Rattle.network.specs.Edges.{ends, plan, n0, n1, c0, c1, sample}
-use Rattle.network.specs.Withdrawals.{begin, oneWay}
-use Rattle.network.specs.BlankEnds.{Row, row, requested, answered}
+use Rattle.network.specs.Worked.Edges.{ends, plan, n0, n1, c0, c1, sample}
+use Rattle.network.specs.Worked.Withdrawals.{begin, oneWay}
+use Rattle.network.specs.Worked.BlankEnds.{Row, row, requested, answered}
 
 -- what a command gives: a batch number, a temperature in its unit, a name's length, and its first byte
 abbrev pub given : ℕ → ℤ → ℕ → ℕ → Fields

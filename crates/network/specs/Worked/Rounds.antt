@@ -15,8 +15,8 @@ use Rattle.network.specs.Runs.{Call, receive, send, enter, run, counted}
 use Rattle.network.specs.Layout.{view, freshRing, soundRing, callRing}
 use Rattle.network.specs.Answers.{says, delivers, answers}
 use Rattle.network.specs.Dispatch.{Told, toldIn, round, onRing, still, afterDispatch, Act, single, dispatch, roundsMade, spelled, dispatched, runActs, actDeliveries, spelledOut}
-use Rattle.network.specs.Edges.{ends, plan, sample, c0, workedRecord}
-use Rattle.network.specs.Withdrawals.{begin, oneWay, oneWaits, twoSame, matchedPair}
+use Rattle.network.specs.Worked.Edges.{ends, plan, sample, c0, workedRecord}
+use Rattle.network.specs.Worked.Withdrawals.{begin, oneWay, oneWaits, twoSame, matchedPair}
 
 -- in the worked rounds each channel k has a record of its own
 abbrev pub recordOf : ℕ → BatchRecord

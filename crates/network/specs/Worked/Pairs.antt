@@ -16,8 +16,8 @@ use Rattle.network.specs.Runs.{Call, receive, enter, move, call, run}
 use Rattle.network.specs.Demand.{checkedCall}
 use Rattle.network.specs.Layout.{ringLimits, view, hold, callRing}
 use Rattle.network.specs.Answers.{Said, says, delivers, answers}
-use Rattle.network.specs.Edges.{n0, n1, n2, c0, c1, c2, workedRecord}
-use Rattle.network.specs.Withdrawals.{ringAfter, oneWaits}
+use Rattle.network.specs.Worked.Edges.{n0, n1, n2, c0, c1, c2, workedRecord}
+use Rattle.network.specs.Worked.Withdrawals.{ringAfter, oneWaits}
 use Rattle.network.specs.Commute.{Traffic, entryAt, moveAt, asCall, Touches, Apart, Commute, EndsCommute}
 
 -- the turn case of document 01 after three receives and an entry: channel 0 is in the one slot of node 0, channel 2 in its line, channel 1 in

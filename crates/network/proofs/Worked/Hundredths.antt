@@ -1,4 +1,4 @@
--- Ground. The worked temperatures and deliveries in both units, computed on the ring apart from its layout, before all that is shown of the
+-- Worked. The worked temperatures and deliveries in both units, computed on the ring apart from its layout, before all that is shown of the
 -- calls.
 use mathlib.Core.Path.{refl}
 use Rattle.batch.specs.Good.{blankAtEnd, blankEnds, sendVerdict, verdictOf, batchGood, tempGood, nameLengthGood, nameGood, widthsGood, nameCellsGood}
@@ -10,7 +10,7 @@ use Rattle.network.specs.Calls.{arrival}
 use Rattle.network.specs.Calls
 use Rattle.network.specs.Runs.{call, run}
 use Rattle.network.specs.Layout.{ringLimits}
-use Rattle.network.specs.Hundredths.{temperatures, TemperaturesAnswer, BothDelivered}
+use Rattle.network.specs.Worked.Hundredths.{temperatures, TemperaturesAnswer, BothDelivered}
 
 pub temperatures-answer : TemperaturesAnswer (λ before. run (call ringLimits) before fresh) (call ringLimits)
 unfolding temperatures sum next sendVerdict blankEnds blankAtEnd verdictOf batchGood tempGood nameLengthGood nameGood widthsGood nameCellsGood Calls.addNode Calls.addChannel Calls.start Calls.receive Calls.send

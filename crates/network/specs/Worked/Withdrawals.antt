@@ -20,7 +20,7 @@ use Rattle.network.specs.Runs.{Call, start, receive, send, enter, move, 
 use Rattle.network.specs.Layout.{ringLimits, view, freshRing, callRing}
 use Rattle.network.specs.Answers.{Said, says, delivers, answers}
 use Rattle.network.specs.Demand.{InTime, UnderWay}
-use Rattle.network.specs.Edges.{Ends, ends, plan, n0, n1, c0, c1, c2, workedRecord}
+use Rattle.network.specs.Worked.Edges.{Ends, ends, plan, n0, n1, c0, c1, c2, workedRecord}
 
 abbrev pub c3 : ChannelNo
 c3 = channelNo 3

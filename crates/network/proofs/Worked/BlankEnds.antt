@@ -1,4 +1,4 @@
--- Ground. The worked sends and the rings made by hand, computed on the ring apart from its layout. They stand before all that is shown of
+-- Worked. The worked sends and the rings made by hand, computed on the ring apart from its layout. They stand before all that is shown of
 -- the calls and of a sound ring, so that a wrong refusal is told by its row.
 use mathlib.Core.Path.{refl}
 use Rattle.batch.specs.Good.{blankAtEnd, blankEnds, sendVerdict, verdictOf, goodRecord, batchGood, tempGood, nameLengthGood, nameGood, widthsGood, nameCellsGood}
@@ -10,7 +10,7 @@ use Rattle.network.specs.Calls.{arrival}
 use Rattle.network.specs.Calls
 use Rattle.network.specs.Runs.{call, run}
 use Rattle.network.specs.Layout.{ringLimits}
-use Rattle.network.specs.BlankEnds.{oldOffer, oldCarried, sends, SendsAnswer, OldRings}
+use Rattle.network.specs.Worked.BlankEnds.{oldOffer, oldCarried, sends, SendsAnswer, OldRings}
 
 pub sends-answer : SendsAnswer (λ before. run (call ringLimits) before fresh) (call ringLimits)
 unfolding sends sum next sendVerdict blankEnds blankAtEnd verdictOf batchGood tempGood nameLengthGood nameGood widthsGood nameCellsGood Calls.addNode Calls.addChannel Calls.start Calls.receive Calls.send

@@ -1,4 +1,4 @@
--- Ground. The worked pairs of entries and moves (specs/Pairs), computed on the ring apart from its layout. They stand before all that is shown
+-- Worked. The worked pairs of entries and moves (specs/Worked/Pairs), computed on the ring apart from its layout. They stand before all that is shown
 -- of the calls, so that a wrong definition is told by its example.
 use Prim.Native.Nat.{ℕ}
 use mathlib.Core.Path.{_≡_, refl, sym, ap, _∙_}
@@ -19,9 +19,9 @@ use Rattle.network.specs.Calls.{arrival}
 use Rattle.network.specs.Calls
 use Rattle.network.specs.Runs.{call, run}
 use Rattle.network.specs.Layout.{ringLimits}
-use Rattle.network.specs.Edges.{n0, n1, n2, c0, c1, c2}
+use Rattle.network.specs.Worked.Edges.{n0, n1, n2, c0, c1, c2}
 use Rattle.network.specs.Commute.{entryAt, moveAt, Apart}
-use Rattle.network.specs.Pairs.{turnCase, n3, runsFrom, arriving, meeting, standsTwice, OrderMatters, WorkedPairs}
+use Rattle.network.specs.Worked.Pairs.{turnCase, n3, runsFrom, arriving, meeting, standsTwice, OrderMatters, WorkedPairs}
 
 -- the ring of the turn case
 abbrev waiting : ℕ → List ChannelNo → List ChannelNo → NodeState

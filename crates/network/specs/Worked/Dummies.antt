@@ -22,7 +22,7 @@ use Rattle.network.specs.Layout.{ringLimits, view, freshRing, soundRing,
 use Rattle.network.specs.Answers.{saidIn, says, replyOf, stepOf}
 use Rattle.network.specs.Demand.{RefusesUnsound, KeepsSound, Leaves, Served, InOrder, Each, Unsound}
 use Rattle.network.specs.Promise.{MeetsContracts, RefusalLeaves, NextRing}
-use Rattle.network.specs.Edges.{n0, n1, c0, workedRecord}
+use Rattle.network.specs.Worked.Edges.{n0, n1, c0, workedRecord}
 
 -- a way to answer ring calls on the ring apart from its layout, and the true one
 abbrev pub Way : Type 0
