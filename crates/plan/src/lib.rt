@@ -16,8 +16,7 @@ use updates::answer::refuse;
 use updates::opening::Subject;
 use updates::opening::open;
 ghost use mathlib.Core.Path.{_≡_};
-ghost use Rattle.network.specs.Answers.{stepOf};
-ghost use Rattle.network.specs.Layout.{callRing, ringIn, stepIn};
+ghost use Rattle.network.specs.Layout.{ringIn, stepIn, stepRing};
 ghost use Rattle.network.specs.Runs;
 
 // A node with so many slots comes after the others, with nothing in it.
@@ -30,9 +29,8 @@ pub fn add_node(
     capacity: u8,
 ) -> HeadStep
     ensures { λ r. ⌜ stepIn r (now (slots .entry)) (now (lines .entry)) (now (offers .entry)) (now (carried .entry))
-        ≡ stepOf (ringIn head (now (slots .entry)) (now (lines .entry)) (now (offers .entry)) (now (carried .entry)))
-        (callRing (Runs.addNode capacity)
-        (ringIn head (now (slots .entry)) (now (lines .entry)) (now (offers .entry)) (now (carried .entry)))) ⌝ }
+        ≡ stepRing (Runs.addNode capacity)
+        (ringIn head (now (slots .entry)) (now (lines .entry)) (now (offers .entry)) (now (carried .entry))) ⌝ }
 {
     let opening = open(head, slots, lines, offers, carried, Subject::Plan);
     if let Verdict::Refused(refusal) = opening {
@@ -64,9 +62,8 @@ pub fn add_channel(
     receiver: NodeNo,
 ) -> HeadStep
     ensures { λ r. ⌜ stepIn r (now (slots .entry)) (now (lines .entry)) (now (offers .entry)) (now (carried .entry))
-        ≡ stepOf (ringIn head (now (slots .entry)) (now (lines .entry)) (now (offers .entry)) (now (carried .entry)))
-        (callRing (Runs.addChannel sender receiver)
-        (ringIn head (now (slots .entry)) (now (lines .entry)) (now (offers .entry)) (now (carried .entry)))) ⌝ }
+        ≡ stepRing (Runs.addChannel sender receiver)
+        (ringIn head (now (slots .entry)) (now (lines .entry)) (now (offers .entry)) (now (carried .entry))) ⌝ }
 {
     let opening = open(head, slots, lines, offers, carried, Subject::Plan);
     if let Verdict::Refused(refusal) = opening {
@@ -99,9 +96,8 @@ pub fn start(
     carried: &Records,
 ) -> HeadStep
     ensures { λ r. ⌜ stepIn r (now (slots .entry)) (now (lines .entry)) (now (offers .entry)) (now (carried .entry))
-        ≡ stepOf (ringIn head (now (slots .entry)) (now (lines .entry)) (now (offers .entry)) (now (carried .entry)))
-        (callRing Runs.start
-        (ringIn head (now (slots .entry)) (now (lines .entry)) (now (offers .entry)) (now (carried .entry)))) ⌝ }
+        ≡ stepRing Runs.start
+        (ringIn head (now (slots .entry)) (now (lines .entry)) (now (offers .entry)) (now (carried .entry))) ⌝ }
 {
     let opening = open(head, slots, lines, offers, carried, Subject::Plan);
     if let Verdict::Refused(refusal) = opening {

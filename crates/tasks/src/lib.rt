@@ -19,8 +19,7 @@ use updates::opening::Subject;
 use updates::opening::open;
 ghost use mathlib.Core.Path.{_≡_};
 ghost use Rattle.batch.specs.Sending.{recordFrom};
-ghost use Rattle.network.specs.Answers.{stepOf};
-ghost use Rattle.network.specs.Layout.{callRing, ringIn, stepIn};
+ghost use Rattle.network.specs.Layout.{ringIn, stepIn, stepRing};
 ghost use Rattle.network.specs.Runs;
 
 // A resting channel becomes asking, and its request joins the receiver node's line.
@@ -33,9 +32,8 @@ pub fn receive(
     channel: ChannelNo,
 ) -> HeadStep
     ensures { λ r. ⌜ stepIn r (now (slots .entry)) (now (lines .exit)) (now (offers .entry)) (now (carried .entry))
-        ≡ stepOf (ringIn head (now (slots .entry)) (now (lines .entry)) (now (offers .entry)) (now (carried .entry)))
-        (callRing (Runs.receive channel)
-        (ringIn head (now (slots .entry)) (now (lines .entry)) (now (offers .entry)) (now (carried .entry)))) ⌝ }
+        ≡ stepRing (Runs.receive channel)
+        (ringIn head (now (slots .entry)) (now (lines .entry)) (now (offers .entry)) (now (carried .entry))) ⌝ }
 {
     let subject = Subject::Channel(channel);
     let opening = open(head, slots, lines, offers, carried, subject);
@@ -63,9 +61,8 @@ pub fn withdraw(
     channel: ChannelNo,
 ) -> HeadStep
     ensures { λ r. ⌜ stepIn r (now (slots .entry)) (now (lines .exit)) (now (offers .entry)) (now (carried .entry))
-        ≡ stepOf (ringIn head (now (slots .entry)) (now (lines .entry)) (now (offers .entry)) (now (carried .entry)))
-        (callRing (Runs.withdraw channel)
-        (ringIn head (now (slots .entry)) (now (lines .entry)) (now (offers .entry)) (now (carried .entry)))) ⌝ }
+        ≡ stepRing (Runs.withdraw channel)
+        (ringIn head (now (slots .entry)) (now (lines .entry)) (now (offers .entry)) (now (carried .entry))) ⌝ }
 {
     let subject = Subject::Channel(channel);
     let opening = open(head, slots, lines, offers, carried, subject);
@@ -103,9 +100,8 @@ pub fn send(
     fields: Fields,
 ) -> HeadStep
     ensures { λ r. ⌜ stepIn r (now (slots .entry)) (now (lines .exit)) (now (offers .exit)) (now (carried .exit))
-        ≡ stepOf (ringIn head (now (slots .entry)) (now (lines .entry)) (now (offers .entry)) (now (carried .entry)))
-        (callRing (Runs.send channel (recordFrom scale fields))
-        (ringIn head (now (slots .entry)) (now (lines .entry)) (now (offers .entry)) (now (carried .entry)))) ⌝ }
+        ≡ stepRing (Runs.send channel (recordFrom scale fields))
+        (ringIn head (now (slots .entry)) (now (lines .entry)) (now (offers .entry)) (now (carried .entry))) ⌝ }
 {
     let subject = Subject::Channel(channel);
     let opening = open(head, slots, lines, offers, carried, subject);

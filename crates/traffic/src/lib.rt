@@ -20,8 +20,7 @@ use updates::opening::open;
 ghost use mathlib.Core.Path.{_≡_};
 ghost use Prim.Native.Nat.{_<_, _+_};
 ghost use Rattle.hops.specs.Hops.{next};
-ghost use Rattle.network.specs.Answers.{stepOf};
-ghost use Rattle.network.specs.Layout.{callRing, ringIn, stepIn};
+ghost use Rattle.network.specs.Layout.{ringIn, stepIn, stepRing};
 ghost use Rattle.network.specs.Network.{nodeNo};
 ghost use Rattle.network.specs.Runs;
 ghost use Rattle.updates.specs.Flat.{markAfter, targetBy};
@@ -37,9 +36,8 @@ pub fn enter(
     node: NodeNo,
 ) -> HeadStep
     ensures { λ r. ⌜ stepIn r (now (slots .exit)) (now (lines .exit)) (now (offers .entry)) (now (carried .entry))
-        ≡ stepOf (ringIn head (now (slots .entry)) (now (lines .entry)) (now (offers .entry)) (now (carried .entry)))
-        (callRing (Runs.enter node)
-        (ringIn head (now (slots .entry)) (now (lines .entry)) (now (offers .entry)) (now (carried .entry)))) ⌝ }
+        ≡ stepRing (Runs.enter node)
+        (ringIn head (now (slots .entry)) (now (lines .entry)) (now (offers .entry)) (now (carried .entry))) ⌝ }
 {
     let subject = Subject::Node(node);
     let opening = open(head, slots, lines, offers, carried, subject);
@@ -60,9 +58,8 @@ pub fn enter_at(
 ) -> HeadStep
     requires { ⌜ AtNode (ringIn head (now slots) (now lines) (now offers) (now carried)) (node .0) ⌝ }
     ensures { λ r. ⌜ stepIn r (now (slots .exit)) (now (lines .exit)) (now (offers .entry)) (now (carried .entry))
-        ≡ stepOf (ringIn head (now (slots .entry)) (now (lines .entry)) (now (offers .entry)) (now (carried .entry)))
-        (callRing (Runs.enter node)
-        (ringIn head (now (slots .entry)) (now (lines .entry)) (now (offers .entry)) (now (carried .entry)))) ⌝ }
+        ≡ stepRing (Runs.enter node)
+        (ringIn head (now (slots .entry)) (now (lines .entry)) (now (offers .entry)) (now (carried .entry))) ⌝ }
 {
     let p = node.0 as usize;
     let used = head.used[p];
@@ -94,9 +91,8 @@ pub fn move_on(
     node: NodeNo,
 ) -> HeadStep
     ensures { λ r. ⌜ stepIn r (now (slots .exit)) (now (lines .exit)) (now (offers .exit)) (now (carried .exit))
-        ≡ stepOf (ringIn head (now (slots .entry)) (now (lines .entry)) (now (offers .entry)) (now (carried .entry)))
-        (callRing (Runs.move node)
-        (ringIn head (now (slots .entry)) (now (lines .entry)) (now (offers .entry)) (now (carried .entry)))) ⌝ }
+        ≡ stepRing (Runs.move node)
+        (ringIn head (now (slots .entry)) (now (lines .entry)) (now (offers .entry)) (now (carried .entry))) ⌝ }
 {
     let subject = Subject::Node(node);
     let opening = open(head, slots, lines, offers, carried, subject);
@@ -117,9 +113,8 @@ pub fn move_at(
 ) -> HeadStep
     requires { ⌜ AtNode (ringIn head (now slots) (now lines) (now offers) (now carried)) (node .0) ⌝ }
     ensures { λ r. ⌜ stepIn r (now (slots .exit)) (now (lines .exit)) (now (offers .exit)) (now (carried .exit))
-        ≡ stepOf (ringIn head (now (slots .entry)) (now (lines .entry)) (now (offers .entry)) (now (carried .entry)))
-        (callRing (Runs.move node)
-        (ringIn head (now (slots .entry)) (now (lines .entry)) (now (offers .entry)) (now (carried .entry)))) ⌝ }
+        ≡ stepRing (Runs.move node)
+        (ringIn head (now (slots .entry)) (now (lines .entry)) (now (offers .entry)) (now (carried .entry))) ⌝ }
 {
     let here = node.0;
     let p = here as usize;
@@ -177,9 +172,8 @@ fn take(
 ) -> HeadStep
     requires { ⌜ Takes (ringIn head (now slots) (now lines) (now offers) (now carried)) p cell ⌝ }
     ensures { λ r. ⌜ stepIn r (now (slots .exit)) (now (lines .exit)) (now (offers .exit)) (now (carried .exit))
-        ≡ stepOf (ringIn head (now (slots .entry)) (now (lines .entry)) (now (offers .entry)) (now (carried .entry)))
-        (callRing (Runs.move (nodeNo p))
-        (ringIn head (now (slots .entry)) (now (lines .entry)) (now (offers .entry)) (now (carried .entry)))) ⌝ }
+        ≡ stepRing (Runs.move (nodeNo p))
+        (ringIn head (now (slots .entry)) (now (lines .entry)) (now (offers .entry)) (now (carried .entry))) ⌝ }
 {
     let channel = cell - 1;
     let k = channel as usize;
@@ -208,9 +202,8 @@ fn deliver(
 ) -> HeadStep
     requires { ⌜ Delivers (ringIn head (now slots) (now lines) (now offers) (now carried)) p cell ⌝ }
     ensures { λ r. ⌜ stepIn r (now (slots .exit)) (now (lines .entry)) (now (offers .entry)) (now (carried .exit))
-        ≡ stepOf (ringIn head (now (slots .entry)) (now (lines .entry)) (now (offers .entry)) (now (carried .entry)))
-        (callRing (Runs.move (nodeNo p))
-        (ringIn head (now (slots .entry)) (now (lines .entry)) (now (offers .entry)) (now (carried .entry)))) ⌝ }
+        ≡ stepRing (Runs.move (nodeNo p))
+        (ringIn head (now (slots .entry)) (now (lines .entry)) (now (offers .entry)) (now (carried .entry))) ⌝ }
 {
     let channel = cell - 1;
     let k = channel as usize;
@@ -239,9 +232,8 @@ fn pass(
 ) -> HeadStep
     requires { ⌜ Passes (ringIn head (now slots) (now lines) (now offers) (now carried)) p next cell ⌝ }
     ensures { λ r. ⌜ stepIn r (now (slots .exit)) (now (lines .entry)) (now (offers .entry)) (now (carried .entry))
-        ≡ stepOf (ringIn head (now (slots .entry)) (now (lines .entry)) (now (offers .entry)) (now (carried .entry)))
-        (callRing (Runs.move (nodeNo p))
-        (ringIn head (now (slots .entry)) (now (lines .entry)) (now (offers .entry)) (now (carried .entry)))) ⌝ }
+        ≡ stepRing (Runs.move (nodeNo p))
+        (ringIn head (now (slots .entry)) (now (lines .entry)) (now (offers .entry)) (now (carried .entry))) ⌝ }
 {
     let q = next as usize;
     let capacity = head.capacity[q];
