@@ -13,7 +13,7 @@
 // - its prototype in the header, and its arm in tests/calls.
 //
 // One more command of the tape takes nothing here: `commands` of `by_number` reads the tape's own table. A call on a lent table hands it on:
-// its operand and its answer are turned by two functions of `by_number`, and `Handing.antt` of `lent` has the argument.
+// its operand and its answer are turned by two functions of `by_number`, and `HandingOn.antt` of `lent` has the argument.
 use batch::sending::Fields;
 use by_number::BatchFigures;
 use by_number::Command;

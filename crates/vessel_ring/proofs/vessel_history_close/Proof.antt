@@ -1,20 +1,22 @@
--- `vessel_history_close` meets its contract: it hands the table on (Handing.antt of `lent`) to `history::close`. Assumes nothing.
+-- `vessel_history_close` meets its contract: it hands the table on (HandingOn.antt of `lent`) to `history::close`. Assumes nothing.
 use mathlib.Core.Path.{refl}
 use mathlib.Core.List.{[], _∷_}
 use mir.Syntax.{w32}
 use Rattle.lent.proofs.Params.{u8-kind, uint-kind}
 use base.Logic.{emp}
 use contract.Monad.{factI}
-use Rattle.lent.proofs.Handing.{hand-note-meets}
+use Rattle.lent.proofs.Around.{called, made, told}
+use Rattle.lent.proofs.Handles.{mut-slice}
+use Rattle.lent.proofs.HandingOn.{hands-on}
 use Rattle.history.specs.History as History
 use Rattle.history.proofs.Types.{batch-no, outcome, row}
-use Rattle.history.proofs.close.Symbol as calls
-use Rattle.history.proofs.close.Met as call-thm
+use Rattle.history.proofs.close.Symbol as g
+use Rattle.history.proofs.close.Met as g-met
 use Rattle.by_number.specs.Tables.{batchNo}
-use Rattle.by_number.proofs.tables.batch_no.Symbol as intos
-use Rattle.by_number.proofs.tables.batch_no.Met as into-thm
-use Rattle.by_number.proofs.tables.number_in.Symbol as outs
-use Rattle.by_number.proofs.tables.number_in.Met as out-thm
+use Rattle.by_number.proofs.tables.batch_no.Symbol as h
+use Rattle.by_number.proofs.tables.batch_no.Met as h-met
+use Rattle.by_number.proofs.tables.number_in.Symbol as k
+use Rattle.by_number.proofs.tables.number_in.Met as k-met
 use Rattle.vessel_ring.proofs.vessel_history_close as exported
 use Rattle.vessel_ring.proofs.vessel_history_close.Key.{name}
 use Rattle.vessel_ring.proofs.vessel_history_close.Statement.{statement}
@@ -23,9 +25,9 @@ use Rattle.vessel_ring.proofs.vessel_history_close.Code as code
 pub vessel-history-close-spec : {M : Type 1} → statement M
 unfolding code.routine
 vessel-history-close-spec 𝓤 H 𝓜 𝓖 𝓡 =
-    hand-note-meets (uint-kind w32 ∷ []) row batch-no outcome u8-kind (λ x. batchNo (x .0)) History.outcomeNumber
-    (λ t b. History.close (b .0) t .outcome) (λ t b. History.close (b .0) t .table) 𝓤 H 𝓜 𝓖 𝓡
-    (λ κs a. exported.clauses 𝓤 H (𝓖 .A) (𝓜 .mem) (𝓡 .run) κs a .ensures tt) (λ κs a ws is. factI 𝓤 _ (emp 𝓤) (refl, refl))
-    code.env name intos.name calls.name outs.name intos.routine calls.routine outs.routine (code.unfolded 𝓤 H 𝓜 𝓡)
-    code.calls-by-number·tables·batch-no code.calls-history·close code.calls-by-number·tables·number-in
-    (into-thm.met 𝓤 H 𝓜 𝓖 𝓡) (call-thm.met 𝓤 H 𝓜 𝓖 𝓡) (out-thm.met 𝓤 H 𝓜 𝓖 𝓡)
+    hands-on (uint-kind w32 ∷ []) (mut-slice row ∷ []) (batch-no ∷ []) outcome u8-kind (λ a. (batchNo (a .0), tt)) History.outcomeNumber
+    (λ t x. History.close (x .0 .0) (t .0) .outcome) (λ t x. (History.close (x .0 .0) (t .0) .table, tt)) 𝓤 H 𝓜 𝓖 𝓡
+    (λ κs a. exported.clauses 𝓤 H (𝓖 .A) (𝓜 .mem) (𝓡 .run) κs a .ensures tt) (λ κs a ws are. factI 𝓤 _ (emp 𝓤) (refl, refl)) code.env name
+    (made (called h.name h.routine code.calls-by-number·tables·batch-no (h-met.met 𝓤 H 𝓜 𝓖 𝓡)))
+    (called g.name g.routine code.calls-history·close (g-met.met 𝓤 H 𝓜 𝓖 𝓡))
+    (told (called k.name k.routine code.calls-by-number·tables·number-in (k-met.met 𝓤 H 𝓜 𝓖 𝓡))) (code.unfolded 𝓤 H 𝓜 𝓡)
