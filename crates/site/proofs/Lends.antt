@@ -1,7 +1,7 @@
 -- The walk of a call that is lent the fields of a ring where they lie, `let s = g(ring.head, &mut ring.slots, .., x); ring.head = s.head; s.reply`:
 -- behind the `&mut Ring` the head is copied out and passed by value, the four arrays are lent to the call, the head that comes back is
 -- stored, and what came beside it is returned. It goes by any struct of a head and a plain value, any list of further parameters, and any
--- contract of the call that says the ring and the answer. Assumes nothing.
+-- contract of the call that says the ring and the answer.
 use mathlib.Core.Path.{_≡_, refl, sym, _∙_, ap, subst}
 use Prim.Native.Nat.{ℕ, suc, _+_}
 use mathlib.Core.List.{List, [], _∷_}
@@ -31,13 +31,12 @@ use denote.Steps.{opens, closes, owned}
 use denote.Triple.Statement.{Contract, Triple}
 use denote.Triple.Entry.{Args}
 use denote.Triple.Spec.{Meets}
-use denote.Triple.Walked.{walkOf}
 use denote.Triple.Clauses.{AtExit, closing}
 use Rattle.lent.proofs.Apart.{refTo}
 use Rattle.lent.proofs.CalledApart.{Apart, CallApart, Ends, alone, calling-apart}
-use Rattle.lent.proofs.Contract.{Lent, Clause, Says, clauses, exits, WalkAt, meets, callee}
+use Rattle.lent.proofs.Contract.{Lent, Clause, Says, clauses, Post, exits, WalkAt, meets, callee}
 use Rattle.lent.proofs.Refs.{seen}
-use Rattle.lent.proofs.Params.{Kind, Values, Placed, nowhere, Blocks, Found, Fine, good-across, slots, stays, across, across-lift, words, locals, copies, past, before, found, found-past, alloc-all, pass-all, in-local, reads-from, read-all, free-all}
+use Rattle.lent.proofs.Params.{Kind, Values, Placed, nowhere, Blocks, Found, Fine, good-across, slots, across, across-lift, words, locals, copies, past, before, found, found-past, alloc-all, pass-all, in-local, reads-from, read-all, free-all}
 use Rattle.network.specs.declared.Head.{Head}
 use Rattle.network.specs.declared.Ring.{Ring}
 use Rattle.network.specs.Layout.{ringIn}
@@ -146,9 +145,7 @@ module _ (X : Kind) (T : Headed X) (ps : List Kind)
     pairTy = tyStruct (T .name) (tcons D′.mir (tcons (X .ty) tnil))
 
     abbrev Done : Val → SProp 𝓤
-    Done =
-        walkOf 𝓤 H A (Lent changed-ring ps X) (changed-ring .hold, stays 1 ps) (clauses changed-ring ps X 𝓤 Q) .post
-        (((κ, tt), (q, tt), tt, (s, a), (ptr-vals s, words 1 (κ, tt) ps a)), tt)
+    Done = Post changed-ring ps X final answer 𝓤 H A W Q κ q s a
 
     abbrev Held : Ring → SProp 𝓤
     Held d = sep 𝓤 (A .lft κ q) (sem 𝓤 H A (MutRef (named 0) κ R.the-row .own (at-last s d) (ptr-vals s)))

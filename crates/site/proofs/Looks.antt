@@ -1,6 +1,6 @@
 -- The walk of a question that is lent the fields of a ring where they lie, `g(ring.head, &ring.slots, .., x)`: behind the `&Ring` the head is
 -- copied out and passed by value, shares of the four arrays are lent to the question, and its answer is returned. It goes by any answer, any
--- list of further parameters and any question whose contract is `r ≡ F ring parameters`. Assumes nothing.
+-- list of further parameters and any question whose contract is `r ≡ F ring parameters`.
 use mathlib.Core.Path.{_≡_, refl, sym, _∙_, ap, subst}
 use Prim.Native.Nat.{ℕ, suc, _+_}
 use mathlib.Core.List.{List, [], _∷_}
@@ -28,13 +28,12 @@ use denote.Steps.{looks, shuts}
 use denote.Triple.Statement.{Contract, Triple}
 use denote.Triple.Entry.{Args}
 use denote.Triple.Spec.{Meets}
-use denote.Triple.Walked.{walkOf}
 use denote.Triple.Clauses.{AtExit, closing}
 use Rattle.lent.proofs.Apart.{refTo}
 use Rattle.lent.proofs.CalledApart.{Apart, CallApart, calling-apart}
-use Rattle.lent.proofs.Contract.{Lent, Clause, Says, clauses, exits, WalkAt, meets, callee}
+use Rattle.lent.proofs.Contract.{Lent, Clause, Says, clauses, Post, exits, WalkAt, meets, callee}
 use Rattle.lent.proofs.Refs.{seen}
-use Rattle.lent.proofs.Params.{Kind, Values, Placed, nowhere, Blocks, Found, Fine, good-across, slots, stays, across, across-lift, words, locals, copies, past, before, found, found-past, alloc-all, pass-all, in-local, reads-from, read-all, free-all}
+use Rattle.lent.proofs.Params.{Kind, Values, Placed, nowhere, Blocks, Found, Fine, good-across, slots, across, across-lift, words, locals, copies, past, before, found, found-past, alloc-all, pass-all, in-local, reads-from, read-all, free-all}
 use Rattle.network.specs.declared.Ring.{Ring}
 use Rattle.network.specs.Layout.{ringIn}
 use Rattle.network.proofs.Ring as R
@@ -116,9 +115,7 @@ module _ (X : Kind) (ps : List Kind) (F : Ring → Values ps → X .row .Denot) 
     x = across 1 (κ, tt) ps a
 
     abbrev Done : Val → SProp 𝓤
-    Done =
-        walkOf 𝓤 H A (Lent shared-ring ps X) (shared-ring .hold, stays 1 ps) (clauses shared-ring ps X 𝓤 Q) .post
-        (((κ, tt), (q, tt), tt, (s, a), (ptr-vals s, words 1 (κ, tt) ps a)), tt)
+    Done = Post shared-ring ps X (λ κs a. tt) answer 𝓤 H A W Q κ q s a
 
     -- the walk ends at the answer that the question's contract says
     ends :

@@ -1,5 +1,5 @@
 -- The fields of a ring where they lie: the head and the four arrays, taken apart and put together, at any share; and the arrays lent and taken
--- back, by `&mut` and by `&`. Assumes nothing.
+-- back, by `&mut` and by `&`.
 use mathlib.Core.Path.{_≡_, refl, sym, ap, subst}
 use Prim.Native.Nat.{ℕ, _+_}
 use mathlib.Core.List.{List, [], _∷_, map}
