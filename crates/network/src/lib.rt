@@ -156,7 +156,7 @@ pub struct HeadStep {
 }
 
 // What the dispatcher answers: `Done` or the refusal, how many rounds it made, and its deliveries in order. There are `count` of them, at
-// most one for each channel: the first was on the first of the channels with the first of the records. What there is not is zero.
+// most one for each channel: the first was on the first of the channels with the first of the records, and zeros stand behind the last.
 pub struct Dispatched {
     pub answer: Answer,
     pub rounds: u16,

@@ -45,13 +45,13 @@ fn push_record(text: &mut [u8], at: usize, channel: ChannelNo, delivered: BatchR
     let temperature = delivered.temperature;
     let name_length = delivered.name_length;
     let cells = delivered.name;
-    let said = text::push_all(text, at, b" delivered");
-    let channelled = text::push_field(text, said, channel_number as u32);
-    let numbered = text::push_field(text, channelled, batch_number);
-    let placed = text::push_field(text, numbered, delivered.vessel as u32);
-    let heated = text::push_signed(text, placed, temperature);
-    let measured = text::push_field(text, heated, name_length as u32);
-    text::push_name(text, measured, name_length, cells)
+    let word_end = text::push_all(text, at, b" delivered");
+    let channel_end = text::push_field(text, word_end, channel_number as u32);
+    let batch_end = text::push_field(text, channel_end, batch_number);
+    let vessel_end = text::push_field(text, batch_end, delivered.vessel as u32);
+    let temperature_end = text::push_signed(text, vessel_end, temperature);
+    let length_end = text::push_field(text, temperature_end, name_length as u32);
+    text::push_name(text, length_end, name_length, cells)
 }
 
 // The delivery in a reply, or nothing where it has none.
@@ -114,10 +114,10 @@ pub fn write_end(bytes: &mut [u8], place: usize, accepted: u32, refused: u32) ->
     ensures { λ r. ⌜ length (endOf accepted refused) ≤ lineRoom ⌝ }
 {
     let mut text = [0u8; LINE_ROOM];
-    let said = text::push_all(&mut text, 0, b"end");
-    let counted = text::push_field(&mut text, said, accepted);
-    let both = text::push_field(&mut text, counted, refused);
-    let end = text::push(&mut text, both, NEWLINE);
+    let word_end = text::push_all(&mut text, 0, b"end");
+    let accepted_end = text::push_field(&mut text, word_end, accepted);
+    let refused_end = text::push_field(&mut text, accepted_end, refused);
+    let end = text::push(&mut text, refused_end, NEWLINE);
     put_text(bytes, place, &text[..end])
 }
 
@@ -128,7 +128,7 @@ pub fn write_too_long(bytes: &mut [u8], place: usize) -> Put
     ensures { λ r. ⌜ length tooLong ≤ lineRoom ⌝ }
 {
     let mut text = [0u8; LINE_ROOM];
-    let said = text::push_all(&mut text, 0, b"too long");
-    let end = text::push(&mut text, said, NEWLINE);
+    let word_end = text::push_all(&mut text, 0, b"too long");
+    let end = text::push(&mut text, word_end, NEWLINE);
     put_text(bytes, place, &text[..end])
 }

@@ -87,7 +87,7 @@ no-leading-zero = (
 pub ten-digits : (n : ℕ) → n < 2 ^ 32 → length (decimal n) ≤ 10
 ten-digits n h = length-decimal 9 n (omega arith)
 
--- the digits after the sign are those of the distance from 0
+-- the digits after the sign are those of the magnitude
 pub signed-below : (z : ℤ) → z ≡ negsuc (mag z) → signed z ≡ 0x2D ∷ decimal (natAbs z)
 unfolding signed
 signed-below z e = rw e

@@ -75,7 +75,7 @@ pub fn push_hex(text: &mut [u8], at: usize, byte: u8) -> usize
 }
 
 // How far a number is from 0. The way by -1 - z stays in range for the lowest number too, whose negative is no i16.
-fn distance(z: i16) -> u32
+fn magnitude(z: i16) -> u32
     ensures { λ r. ⌜ r ≡ natAbs z ⌝ }
 {
     if z < 0 { (-1 - z) as u32 + 1 } else { z as u32 }
@@ -86,7 +86,7 @@ pub fn push_signed(text: &mut [u8], at: usize, z: i16) -> usize
     requires { ⌜ at + 12 ≤ length (now text) ⌝ }
     ensures { λ r. ⌜ Appends (now (text .entry)) (now (text .exit)) at r (space ∷ signed z) 12 ⌝ }
 {
-    let digits = distance(z);
+    let digits = magnitude(z);
     let spaced = push(text, at, SPACE);
     if z < 0 {
         let first = push(text, spaced, MINUS);

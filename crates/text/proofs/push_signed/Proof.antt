@@ -23,8 +23,8 @@ module _ (spaced : tie.After-push) where
   fits : SFits w16 z
   fits = start .fits .z
 
-  digits : spaced .before .before .distance .result ≡ natAbs z
-  digits = spaced .before .before .distance .ensures ∙ ap natAbs (toZ-ofZ fits)
+  digits : spaced .before .before .magnitude .result ≡ natAbs z
+  digits = spaced .before .before .magnitude .ensures ∙ ap natAbs (toZ-ofZ fits)
 
 returns : tie.Need-returns
 returns c =

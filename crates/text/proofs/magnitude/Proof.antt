@@ -1,4 +1,4 @@
--- `text::distance` meets its contract: by the sign.
+-- `text::magnitude` meets its contract: by the sign.
 use mathlib.Core.Path.{_≡_, ap}
 use native.Mathlib.Omega.{arith}
 use lib.IntN.{negsuc, natAbs}
@@ -6,8 +6,8 @@ use lib.Signed.{mag}
 use mir.Facts.{toZ-ofZ}
 use borrow.Author.Needs.{needs}
 use Rattle.batch.proofs.Signed.{below, above, mirrored, magnitude}
-use Rattle.text.proofs.distance.Statement.{statement}
-use Rattle.text.proofs.distance.Tie as tie
+use Rattle.text.proofs.magnitude.Statement.{statement}
+use Rattle.text.proofs.magnitude.Tie as tie
 
 negative : (c : tie.Then1) → c .before .args .z ≡ negsuc (mag (c .before .args .z))
 negative c = below (c .before .args .z) (c .before .fits .z) (c .if1 .taken)
@@ -30,5 +30,5 @@ returns c =
     let e : natAbs (c .before .args .z) ≡ natAbs (negsuc (mag (c .before .args .z))) = ap natAbs (negative c) in
     rw (magnitude (c .before .args .z) (c .before .fits .z) (negative c)) (omega arith)
 
-pub distance-spec : {M : Type 1} → statement M
-distance-spec = tie.close (tie.spec sub-result cast-result add-result cast-result-2 returns (λ c. search needs))
+pub magnitude-spec : {M : Type 1} → statement M
+magnitude-spec = tie.close (tie.spec sub-result cast-result add-result cast-result-2 returns (λ c. search needs))
