@@ -176,9 +176,10 @@ impl Network {
         if n > 16 || c > 64 || self.channels.iter().any(|channel| channel.sender >= n || channel.receiver >= n) {
             return false;
         }
-        let nodes_good = self.nodes.iter().all(|node| {
-            (1..=64).contains(&node.slots) && node.buffer.len() <= node.slots && !(node.mark && node.line.is_empty())
-        });
+        let nodes_good = self
+            .nodes
+            .iter()
+            .all(|node| (1..=64).contains(&node.slots) && node.buffer.len() <= node.slots && !(node.mark && node.line.is_empty()));
         let channels_good = self.channels.iter().all(|channel| {
             let carried = match channel.phase {
                 Phase::Answering(record) => Some(record),

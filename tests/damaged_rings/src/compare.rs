@@ -5,9 +5,8 @@
 use crate::damage::{change_place, change_whole, ALWAYS_SOUND, KINDS, NO_TENTHS};
 use crate::expected;
 use crate::layout::{
-    change_temperatures, channels, deliveries, lay_out, nodes, record_bytes, Bytes, Each, CAPACITY,
-    CARRIED, CHANNEL_COUNT, LENGTH, LINES, MARKS, NODE_COUNT, OFFERED, OFFERS, PARTS, PHASES,
-    RECEIVERS, SENDERS, SLOTS, SPARE, STARTED, USED, WAITING,
+    change_temperatures, channels, deliveries, lay_out, nodes, record_bytes, Bytes, Each, CAPACITY, CARRIED, CHANNEL_COUNT, LENGTH, LINES,
+    MARKS, NODE_COUNT, OFFERED, OFFERS, PARTS, PHASES, RECEIVERS, SENDERS, SLOTS, SPARE, STARTED, USED, WAITING,
 };
 use crate::rings::Rings;
 use second_model::generate::Random;
@@ -77,12 +76,7 @@ impl Cases {
 /// Judges and turns `count` rings. A verdict is 1 for a sound ring and 0 for another;
 /// a turned ring is answered with 0, another with 25 and as it was. The first that is
 /// not as expected is answered as text.
-pub fn compare(
-    count: u64,
-    seed: u64,
-    verdict: impl Fn(&Bytes) -> u8,
-    turn: impl Fn(&mut Bytes) -> u8,
-) -> Result<Sums, String> {
+pub fn compare(count: u64, seed: u64, verdict: impl Fn(&Bytes) -> u8, turn: impl Fn(&mut Bytes) -> u8) -> Result<Sums, String> {
     let mut cases = Cases::new(seed);
     let mut sums = Sums::new();
     for number in 1..=count {
@@ -104,11 +98,7 @@ pub fn compare(
 
 /// What is wrong where a ring is turned into another than expected, which is nothing
 /// for a ring that is to be refused.
-fn turned_wrong(
-    bytes: &Bytes,
-    expected: Option<&Bytes>,
-    turn: &impl Fn(&mut Bytes) -> u8,
-) -> Option<String> {
+fn turned_wrong(bytes: &Bytes, expected: Option<&Bytes>, turn: &impl Fn(&mut Bytes) -> u8) -> Option<String> {
     let mut after = *bytes;
     let answer = turn(&mut after);
     let right = if expected.is_some() { 0 } else { UNSOUND };
@@ -169,10 +159,7 @@ impl Sums {
 
     pub fn print(&self, seed: u64) {
         let unsound = self.rings - self.sound;
-        println!(
-            "seed {seed}: {} rings compared, {} sound, {unsound} unsound",
-            self.rings, self.sound
-        );
+        println!("seed {seed}: {} rings compared, {} sound, {unsound} unsound", self.rings, self.sound);
         for (changes, count) in self.changes.iter().enumerate() {
             println!("with {changes} changes: {count}");
         }
@@ -189,8 +176,7 @@ impl Sums {
     pub fn faults(&self) -> Vec<String> {
         let kinds = KINDS.iter().zip(&self.kinds);
         let never = kinds.filter(|(_, sum)| sum.made == 0);
-        let mut faults: Vec<String> =
-            never.map(|(kind, _)| format!("never made: {}", kind.name)).collect();
+        let mut faults: Vec<String> = never.map(|(kind, _)| format!("never made: {}", kind.name)).collect();
         let always = KINDS.iter().zip(&self.kinds).filter(|(k, _)| ALWAYS_SOUND.contains(&k.name));
         for (kind, KindSum { alone, sound, in_tenths, turned, .. }) in always {
             if *alone == 0 || sound < alone {
@@ -264,8 +250,7 @@ fn show_counts(text: &mut String, bytes: &Bytes) {
 }
 
 fn show_node(text: &mut String, bytes: &Bytes, at: usize) {
-    let [slots, used, waiting, mark] =
-        [CAPACITY, USED, WAITING, MARKS].map(|part| bytes[part + at]);
+    let [slots, used, waiting, mark] = [CAPACITY, USED, WAITING, MARKS].map(|part| bytes[part + at]);
     let [buffer, queue] = [SLOTS, LINES].map(|part| &bytes[part + at * ROW..][..ROW]);
     if at >= nodes(bytes) && slots | used | waiting | mark == 0 && empty(buffer) && empty(queue) {
         return;
@@ -276,8 +261,7 @@ fn show_node(text: &mut String, bytes: &Bytes, at: usize) {
 }
 
 fn show_channel(text: &mut String, bytes: &Bytes, at: usize) {
-    let [sender, receiver, phase, offered] =
-        [SENDERS, RECEIVERS, PHASES, OFFERED].map(|part| bytes[part + at]);
+    let [sender, receiver, phase, offered] = [SENDERS, RECEIVERS, PHASES, OFFERED].map(|part| bytes[part + at]);
     let [offer, carried] = [OFFERS, CARRIED].map(|part| record_bytes(bytes, part, at));
     let head = sender | receiver | phase | offered;
     if at >= channels(bytes) && head == 0 && empty(offer) && empty(carried) {

@@ -1,9 +1,8 @@
 //! Changes to the bytes of a ring, by kind. Some leave it sound.
 
 use crate::layout::{
-    channels, nodes, put_record, put_temperature, record_bytes, temperature_in, Bytes, Part,
-    CAPACITY, CARRIED, CHANNEL_COUNT, DELIVERIES, LENGTH, LINES, MARKS, NODE_COUNT, OFFERED,
-    OFFERS, PARTS, PHASES, RECEIVERS, RECORD, SENDERS, SLOTS, SPARE, STARTED, USED, WAITING,
+    channels, nodes, put_record, put_temperature, record_bytes, temperature_in, Bytes, Part, CAPACITY, CARRIED, CHANNEL_COUNT, DELIVERIES,
+    LENGTH, LINES, MARKS, NODE_COUNT, OFFERED, OFFERS, PARTS, PHASES, RECEIVERS, RECORD, SENDERS, SLOTS, SPARE, STARTED, USED, WAITING,
 };
 use second_model::generate::{good_record, Random, EDGE_HUNDREDTHS, EDGE_TENTHS};
 use second_model::ring::{Unit, BLANK, CHANNELS, SLOTS as ROW};
@@ -123,11 +122,7 @@ fn every_byte_drawn(bytes: &mut Bytes, random: &mut Random) -> bool {
 fn place(bytes: &Bytes, random: &mut Random) -> usize {
     let part = draw_part(random);
     let in_use = part.in_use(bytes);
-    let item = if in_use > 0 && random.percent(80) {
-        random.below(in_use)
-    } else {
-        random.below(part.items())
-    };
+    let item = if in_use > 0 && random.percent(80) { random.below(in_use) } else { random.below(part.items()) };
     part.first + item * part.width + random.below(part.width)
 }
 
@@ -372,9 +367,7 @@ fn exchanged_in_row(bytes: &mut Bytes, random: &mut Random) -> bool {
 }
 
 fn exchanged_between_rows(bytes: &mut Bytes, random: &mut Random) -> bool {
-    let (Some(row), Some(other)) =
-        (Row::draw_filled(bytes, random), Row::draw_filled(bytes, random))
-    else {
+    let (Some(row), Some(other)) = (Row::draw_filled(bytes, random), Row::draw_filled(bytes, random)) else {
         return false;
     };
     let (at, there) = (row.draw_cell(bytes, random), other.draw_cell(bytes, random));
@@ -384,8 +377,7 @@ fn exchanged_between_rows(bytes: &mut Bytes, random: &mut Random) -> bool {
 
 /// A message a second time on the ring, in the same row or another.
 fn message_doubled(bytes: &mut Bytes, random: &mut Random) -> bool {
-    let (Some(row), Some(other)) = (Row::draw_filled(bytes, random), Row::draw(bytes, random))
-    else {
+    let (Some(row), Some(other)) = (Row::draw_filled(bytes, random), Row::draw(bytes, random)) else {
         return false;
     };
     let at = row.draw_cell(bytes, random);
@@ -394,8 +386,7 @@ fn message_doubled(bytes: &mut Bytes, random: &mut Random) -> bool {
 
 /// A message at the end of another row than its own.
 fn message_moved(bytes: &mut Bytes, random: &mut Random) -> bool {
-    let (Some(row), Some(other)) = (Row::draw_filled(bytes, random), Row::draw(bytes, random))
-    else {
+    let (Some(row), Some(other)) = (Row::draw_filled(bytes, random), Row::draw(bytes, random)) else {
         return false;
     };
     if other.cells == row.cells || other.long(bytes) == ROW {

@@ -1,9 +1,7 @@
 //! How a ring lies in memory (crates/network): where its parts are, a ring of
 //! the model laid out there, and read back.
 
-use second_model::ring::{
-    BatchNumber, Channel, Node, NodeNumber, Record, Ring, CELLS, CHANNELS, NODES, SLOTS as ROW,
-};
+use second_model::ring::{BatchNumber, Channel, Node, NodeNumber, Record, Ring, CELLS, CHANNELS, NODES, SLOTS as ROW};
 
 /// "batch number 4, vessel 1, temperature 2, name length 1, name 32"
 pub const RECORD: usize = 40;
@@ -210,12 +208,7 @@ pub fn read_back(bytes: &Bytes) -> Ring {
 }
 
 fn read_node(bytes: &Bytes, at: usize) -> Node {
-    Node {
-        slots: bytes[CAPACITY + at],
-        buffer_length: bytes[USED + at],
-        line_length: bytes[WAITING + at],
-        turn_mark: bytes[MARKS + at],
-    }
+    Node { slots: bytes[CAPACITY + at], buffer_length: bytes[USED + at], line_length: bytes[WAITING + at], turn_mark: bytes[MARKS + at] }
 }
 
 fn read_channel(bytes: &Bytes, at: usize) -> Channel {

@@ -33,8 +33,7 @@ fn turned(bytes: &mut Bytes) -> u8 {
 }
 
 fn main() -> ExitCode {
-    let numbers: Vec<Option<u64>> =
-        std::env::args().skip(1).map(|word| word.parse().ok()).collect();
+    let numbers: Vec<Option<u64>> = std::env::args().skip(1).map(|word| word.parse().ok()).collect();
     let [Some(count), Some(seed)] = numbers[..] else {
         eprintln!("damaged_rings COUNT SEED");
         return ExitCode::from(2);

@@ -7,10 +7,7 @@ use crate::expected;
 use crate::layout::*;
 use crate::rings::Rings;
 use second_model::generate::{fields_named, Random};
-use second_model::ring::{
-    ChannelNumber, NodeNumber, Record, Ring, Unit, ANSWERING, ASKING, CHANNELS, NODES, READY,
-    RESTING,
-};
+use second_model::ring::{ChannelNumber, NodeNumber, Record, Ring, Unit, ANSWERING, ASKING, CHANNELS, NODES, READY, RESTING};
 use std::sync::OnceLock;
 
 const SEED: u64 = 1978;
@@ -442,12 +439,8 @@ fn wrong_verdicts_are_found_out() {
     assert_found_out("a sound ring is 255", |bytes| model(bytes).wrapping_neg());
     assert_found_out("an unsound ring is 2", |bytes| 2 - model(bytes));
     assert_found_out("the flags of the offers", |bytes| read_back(bytes).sound() as u8);
-    assert_found_out("an offer with a blank end is none", |bytes| {
-        model(bytes) & !holds_blank_end(bytes, OFFERS) as u8
-    });
-    assert_found_out("a record carried with a blank end is none", |bytes| {
-        model(bytes) & !holds_blank_end(bytes, CARRIED) as u8
-    });
+    assert_found_out("an offer with a blank end is none", |bytes| model(bytes) & !holds_blank_end(bytes, OFFERS) as u8);
+    assert_found_out("a record carried with a blank end is none", |bytes| model(bytes) & !holds_blank_end(bytes, CARRIED) as u8);
 }
 
 /// Whether a record among these has a name with a blank at an end.
@@ -487,9 +480,7 @@ fn rings_turned_wrong_are_found_out() {
     assert_turn_found_out("none is turned", |_| 25);
     assert_turn_found_out("all are left as they are", |_| 0);
     assert_turn_found_out("refused with 1", |bytes| model_turn(bytes).min(1));
-    let keep = |first: usize, end: usize| {
-        then(move |before, after| after[first..end].copy_from_slice(&before[first..end]))
-    };
+    let keep = |first: usize, end: usize| then(move |before, after| after[first..end].copy_from_slice(&before[first..end]));
     assert_turn_found_out("the offers forgotten", keep(OFFERS, CARRIED));
     assert_turn_found_out("the records carried forgotten", keep(CARRIED, LENGTH));
     assert_turn_found_out("channel 63 forgotten", keep(LENGTH - RECORD, LENGTH));

@@ -3,10 +3,7 @@
 //! what it did.
 
 use crate::listing::{apply, TAPE_LIMIT};
-use crate::ring::{
-    Channel, ChannelNumber, Delivery, Fields, NodeNumber, Refusal, Ring, Unit, ANSWERING, ASKING,
-    BLANK, CHANNELS, SLOTS,
-};
+use crate::ring::{Channel, ChannelNumber, Delivery, Fields, NodeNumber, Refusal, Ring, Unit, ANSWERING, ASKING, BLANK, CHANNELS, SLOTS};
 use crate::tape::{self, Command, Read};
 use std::collections::VecDeque;
 
@@ -72,13 +69,7 @@ fn follow(tape: &[u8], mut make: impl FnMut(&mut Ring, &Command)) {
 
 /// What a tape shows of withdrawals.
 pub fn withdrawals(tape: &[u8]) -> Withdrawals {
-    let mut watch = Watch {
-        seen: Withdrawals::default(),
-        commands: 0,
-        matches: [None; CHANNELS],
-        received: [0; CHANNELS],
-        blocked: None,
-    };
+    let mut watch = Watch { seen: Withdrawals::default(), commands: 0, matches: [None; CHANNELS], received: [0; CHANNELS], blocked: None };
     follow(tape, |ring, command| {
         let waiting = marked_line(ring, command);
         let answer = apply(ring, command);
@@ -147,8 +138,7 @@ impl Watch {
         let channel = &ring.channels[number.0 as usize];
         let asking = channel.phase == ASKING && !channel.offer.is_none();
         if asking || channel.phase == ANSWERING {
-            self.matches[number.0 as usize]
-                .get_or_insert(Match { since: self.commands, undone: 0 });
+            self.matches[number.0 as usize].get_or_insert(Match { since: self.commands, undone: 0 });
         }
     }
 
@@ -213,9 +203,7 @@ impl Names {
 pub fn names(tape: &[u8]) -> Names {
     let mut seen = Names::default();
     follow(tape, |ring, command| {
-        let offered = |number: &ChannelNumber| {
-            ring.channels.get(number.0 as usize).is_some_and(|channel| !channel.offer.is_none())
-        };
+        let offered = |number: &ChannelNumber| ring.channels.get(number.0 as usize).is_some_and(|channel| !channel.offer.is_none());
         let send = match command {
             Command::Send(number, fields) => Some((fields, offered(number))),
             _ => None,

@@ -2,9 +2,7 @@
 //! the rings that hold such a name from before, and what `coverage` sees of names.
 
 use second_model::coverage::{self, Names, NAME_SIGHTS};
-use second_model::generate::{
-    self, fields_named, fields_to_send, good_record, record_named, Random,
-};
+use second_model::generate::{self, fields_named, fields_to_send, good_record, record_named, Random};
 use second_model::history::History;
 use second_model::listing;
 use second_model::ring::*;
@@ -211,18 +209,10 @@ fn the_named_tape() {
     let mut out = Vec::new();
     listing::run(&tape, &mut out);
     let text = String::from_utf8(out).expect("listings are ASCII");
-    let sends: Vec<&str> =
-        text.lines().filter_map(|line| line.split_once(" 21 ")).map(|(_, answer)| answer).collect();
-    let answers = [
-        "0", "30", "30", "30", "0", "30", "0", "30", "30", "30", "30", "14", "14", "13", "14",
-        "14", "30", "15",
-    ];
+    let sends: Vec<&str> = text.lines().filter_map(|line| line.split_once(" 21 ")).map(|(_, answer)| answer).collect();
+    let answers = ["0", "30", "30", "30", "0", "30", "0", "30", "30", "30", "30", "14", "14", "13", "14", "14", "30", "15"];
     assert_eq!(sends, answers);
-    let arrived: Vec<&str> = text
-        .lines()
-        .filter_map(|line| line.split_once(" delivered "))
-        .map(|(_, record)| record)
-        .collect();
+    let arrived: Vec<&str> = text.lines().filter_map(|line| line.split_once(" delivered ")).map(|(_, record)| record).collect();
     let long = "A".repeat(32);
     assert_eq!(arrived, ["0 7 3 6120 0", "4 7 3 6120 3 A B", &format!("6 7 3 6120 32 {long}")]);
     let seen = coverage::names(&tape);
@@ -232,8 +222,7 @@ fn the_named_tape() {
 /// A started ring's tape with these sends on channel 0.
 fn tape_of(sends: &[Fields]) -> Vec<u8> {
     let (sender, receiver) = (NodeNumber(0), NodeNumber(0));
-    let plan =
-        [Command::AddNode { slots: 2 }, Command::AddChannel { sender, receiver }, Command::Start];
+    let plan = [Command::AddNode { slots: 2 }, Command::AddChannel { sender, receiver }, Command::Start];
     let sends = sends.iter().map(|fields| Command::Send(CHANNEL_0, *fields));
     let mut bytes = Vec::new();
     for command in plan.into_iter().chain(sends) {

@@ -224,9 +224,7 @@ fn drawn_rings() {
                 load(&mut ring, random);
                 let made = holds(&ring, u16::MAX).rounds;
                 let given = [0, 1, made.saturating_sub(1), made, made + 1, ring.enough_rounds()];
-                given
-                    .into_iter()
-                    .for_each(|given| assert_eq!(holds(&ring, given).rounds, given.min(made)));
+                given.into_iter().for_each(|given| assert_eq!(holds(&ring, given).rounds, given.min(made)));
                 most = most.max(made);
             }
         }

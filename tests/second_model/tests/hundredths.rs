@@ -187,8 +187,7 @@ fn the_named_tape() {
     listing::run(&tape, &mut out);
     let text = String::from_utf8(out).expect("listings are ASCII");
     let delivered = text.lines().filter_map(|line| line.split_once(" delivered "));
-    let arrived: Vec<i16> =
-        delivered.map(|(_, record)| record.split(' ').nth(3).unwrap().parse().unwrap()).collect();
+    let arrived: Vec<i16> = delivered.map(|(_, record)| record.split(' ').nth(3).unwrap().parse().unwrap()).collect();
     let good = |range: std::ops::RangeInclusive<i16>| move |value: &i16| range.contains(value);
     let by_21 = EDGE_TENTHS.into_iter().filter(good(-400..=1200)).map(|value| 10 * value);
     let by_25 = EDGE_HUNDREDTHS.into_iter().filter(good(-4000..=12000));

@@ -99,9 +99,7 @@ fn refusals_of_the_reader() {
                 for length in 1..width {
                     assert_eq!(read(&bytes[..length], 0), Err(Refusal::CommandCut));
                 }
-                assert!(
-                    matches!(read(&bytes[..width], 0), Ok(Read::Command(_, next)) if next == width)
-                );
+                assert!(matches!(read(&bytes[..width], 0), Ok(Read::Command(_, next)) if next == width));
             }
         }
     }

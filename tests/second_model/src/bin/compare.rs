@@ -48,11 +48,7 @@ struct Shown {
 
 impl Shown {
     fn of(tape: &[u8]) -> Shown {
-        Shown {
-            withdrawals: coverage::withdrawals(tape),
-            names: coverage::names(tape),
-            temperatures: coverage::temperatures(tape),
-        }
+        Shown { withdrawals: coverage::withdrawals(tape), names: coverage::names(tape), temperatures: coverage::temperatures(tape) }
     }
 
     fn add(&mut self, other: &Shown) {
@@ -81,15 +77,7 @@ struct Sums {
 
 impl Sums {
     fn new() -> Sums {
-        Sums {
-            tapes: 0,
-            too_long: 0,
-            commands: 0,
-            deliveries: 0,
-            refusals: [0; REFUSAL_NUMBERS],
-            shown: Shown::default(),
-            differences: 0,
-        }
+        Sums { tapes: 0, too_long: 0, commands: 0, deliveries: 0, refusals: [0; REFUSAL_NUMBERS], shown: Shown::default(), differences: 0 }
     }
 
     fn add(&mut self, totals: &Totals, shown: &Shown) {
@@ -172,12 +160,7 @@ fn compare_one(program: &OsStr, index: usize, tape: &[u8], sums: &Mutex<Sums>) {
 }
 
 /// What the program prints for this tape.
-fn run_program(
-    program: &OsStr,
-    tape: &[u8],
-    in_pieces: bool,
-    expected_length: usize,
-) -> Result<Vec<u8>, String> {
+fn run_program(program: &OsStr, tape: &[u8], in_pieces: bool, expected_length: usize) -> Result<Vec<u8>, String> {
     let mut child = Command::new(program)
         .stdin(Stdio::piped())
         .stdout(Stdio::piped())
@@ -242,9 +225,7 @@ fn feed(mut input: ChildStdin, tape: &[u8], in_pieces: bool) {
 }
 
 fn first_difference(expected: &[u8], printed: &[u8]) -> String {
-    let lines = |text: &[u8]| -> Vec<Vec<u8>> {
-        text.split_inclusive(|&byte| byte == b'\n').map(<[u8]>::to_vec).collect()
-    };
+    let lines = |text: &[u8]| -> Vec<Vec<u8>> { text.split_inclusive(|&byte| byte == b'\n').map(<[u8]>::to_vec).collect() };
     let (expected, printed) = (lines(expected), lines(printed));
     let mut at = 0;
     while expected.get(at).is_some() && expected.get(at) == printed.get(at) {
@@ -254,12 +235,7 @@ fn first_difference(expected: &[u8], printed: &[u8]) -> String {
         Some(line) => format!("\"{}\"", line.escape_ascii()),
         None => "nothing".to_string(),
     };
-    format!(
-        "line {} differs\n  model:   {}\n  program: {}",
-        at + 1,
-        show(expected.get(at)),
-        show(printed.get(at))
-    )
+    format!("line {} differs\n  model:   {}\n  program: {}", at + 1, show(expected.get(at)), show(printed.get(at)))
 }
 
 fn save_tape(index: usize, tape: &[u8]) -> std::io::Result<String> {
@@ -282,12 +258,10 @@ fn print_sums(sums: &Sums, seed: u64) {
             println!("refusal {number}: {count}");
         }
     }
-    let Withdrawals { accepted, marks_cleared, marks_kept, freed_moves, most_undone } =
-        sums.shown.withdrawals;
+    let Withdrawals { accepted, marks_cleared, marks_kept, freed_moves, most_undone } = sums.shown.withdrawals;
     println!("{accepted} withdrawals: marks cleared {marks_cleared}, marks kept {marks_kept}");
     println!("moves freed {freed_moves}; most receives undone before a delivery {most_undone}");
-    let Temperatures { accepted: [tenths, hundredths], both_delivered, .. } =
-        sums.shown.temperatures;
+    let Temperatures { accepted: [tenths, hundredths], both_delivered, .. } = sums.shown.temperatures;
     println!("{tenths} sends in tenths accepted, {hundredths} in hundredths");
     println!("{both_delivered} tapes deliver records of both");
     for (name, count) in sums.shown.sights() {
@@ -315,8 +289,7 @@ fn faults(sums: &Sums, drawn: u64) -> Vec<String> {
         }
     }
     faults.extend(below_floors(sums, drawn));
-    let Withdrawals { marks_cleared, marks_kept, freed_moves, most_undone, .. } =
-        sums.shown.withdrawals;
+    let Withdrawals { marks_cleared, marks_kept, freed_moves, most_undone, .. } = sums.shown.withdrawals;
     for (missing, fault) in [
         (marks_cleared == 0, "no withdrawal cleared a turn mark"),
         (marks_kept == 0, "no withdrawal took the first out of a line that kept its mark"),
