@@ -3,6 +3,7 @@
 
 pub mod draw;
 pub mod form;
+pub mod library;
 pub mod model;
 pub mod second;
 pub mod tape;

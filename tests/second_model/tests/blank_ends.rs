@@ -1,8 +1,10 @@
 //! Request N4 of document 02, "Blanks at the ends of a name": its worked rows,
 //! the rings that hold such a name from before, and what `coverage` sees of names.
 
-use second_model::coverage::{self, Names, NAME_SIGHTS};
-use second_model::generate::{self, fields_named, fields_to_send, good_record, record_named, Random};
+use common::random::Random;
+use common::sights::Sights;
+use second_model::coverage::{self, NAME_SIGHTS};
+use second_model::generate::{self, fields_named, fields_to_send, good_record, record_named};
 use second_model::history::History;
 use second_model::listing;
 use second_model::ring::*;
@@ -216,7 +218,7 @@ fn the_named_tape() {
     let long = "A".repeat(32);
     assert_eq!(arrived, ["0 7 3 6120 0", "4 7 3 6120 3 A B", &format!("6 7 3 6120 32 {long}")]);
     let seen = coverage::names(&tape);
-    assert!(seen.0.iter().all(|&count| count > 0), "{seen:?}");
+    assert_eq!(seen.missing(), [""; 0]);
 }
 
 /// A started ring's tape with these sends on channel 0.
@@ -235,9 +237,8 @@ fn tape_of(sends: &[Fields]) -> Vec<u8> {
 
 /// What a send shows, as far as it is among the sights.
 fn seen(sends: &[Fields]) -> Vec<&'static str> {
-    let Names(counts) = coverage::names(&tape_of(sends));
-    let sights = NAME_SIGHTS.iter().zip(counts);
-    sights.flat_map(|(name, count)| (0..count).map(move |_| *name)).collect()
+    let seen = coverage::names(&tape_of(sends));
+    NAME_SIGHTS.into_iter().flat_map(|name| (0..seen.seen(name)).map(move |_| name)).collect()
 }
 
 #[test]
@@ -264,5 +265,5 @@ fn coverage_of_names_is_exact() {
     let before_15 = "30 with a record offered, where 15 applies too";
     assert_eq!(seen(&[fields_named(b"A"), fields_named(b"A ")]), [last, before_15]);
     assert_eq!(seen(&[fields_named(b"A"), fields_named(b"AB")]), [""; 0]);
-    assert_eq!(coverage::names(&[0x12; listing::TAPE_LIMIT + 1]), Names::default());
+    assert_eq!(coverage::names(&[0x12; listing::TAPE_LIMIT + 1]), Sights::of(NAME_SIGHTS));
 }

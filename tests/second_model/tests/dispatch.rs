@@ -1,8 +1,9 @@
 //! Request N3 of document 02, "A dispatcher for the ring": its worked cases, and
 //! what it says of every ring, on rings of drawn tapes.
 
+use common::random::Random;
 use second_model::dispatch::Dispatched;
-use second_model::generate::{fields_to_send, record_named, Random, Tapes};
+use second_model::generate::{fields_to_send, record_named, Tapes};
 use second_model::listing::apply;
 use second_model::ring::*;
 use second_model::tape::{self, Command, Read};

@@ -421,7 +421,7 @@ fn started() {
 /// speed, agrees with `sound` on rings with one field changed at random.
 #[test]
 fn the_fast_check_agrees_with_the_letter() {
-    use second_model::generate::Random;
+    use common::random::Random;
     let random = &mut Random::new(4);
     let starts = [Ring::fresh(), planned(), busy(), response_on_its_way()];
     let mut sound = 0;
@@ -436,7 +436,7 @@ fn the_fast_check_agrees_with_the_letter() {
     assert!(sound > 1_000, "some changes leave the ring sound: {sound}");
 }
 
-fn change(ring: &mut Ring, random: &mut second_model::generate::Random) {
+fn change(ring: &mut Ring, random: &mut common::random::Random) {
     let small = random.below(6) as u8;
     let at_node = random.below(6);
     let at_channel = random.below(7);

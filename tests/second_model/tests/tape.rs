@@ -1,6 +1,7 @@
 //! The reader and the writer of the command tape.
 
-use second_model::generate::{fields_named, Random};
+use common::random::Random;
+use second_model::generate::fields_named;
 use second_model::ring::{BatchNumber, ChannelNumber, Fields, NodeNumber, Refusal, Unit};
 use second_model::tape::{read, width, write, Command, Read};
 
