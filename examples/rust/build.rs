@@ -11,5 +11,7 @@ fn main() {
     if Path::new(&library).exists() {
         println!("cargo:rustc-link-search=native={folder}");
         println!("cargo:rustc-link-lib=static=vessel_ring");
+    } else {
+        println!("cargo:warning=target/staticlib/libvessel_ring.a is not there, and what calls it does not link: rt staticlib vessel_ring");
     }
 }
