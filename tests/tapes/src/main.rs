@@ -1,12 +1,13 @@
 //! tapes PROGRAM [TAPES] [SEED]: runs PROGRAM, a tape program of document 01, on generated tapes (standard input) and compares what it
-//! prints, byte by byte, with the model's listing. Ends with failure on a difference, and when what has to be seen (src/seen.rs) was not.
+//! prints, byte by byte, with the listing of the model with queues (tests/calls); the second model, which is the benchmark's peer, has to
+//! print the same. Ends with failure on a difference, and when what has to be seen (src/seen.rs) was not.
 
 mod seen;
 mod tape_program;
 
+use calls::listing::{Listing, TAPE_LIMIT};
 use common::program;
 use second_model::generate::Tapes;
-use second_model::listing::{self, TAPE_LIMIT};
 use seen::{Seen, Sums};
 use std::ffi::{OsStr, OsString};
 use std::process::ExitCode;
@@ -41,28 +42,36 @@ fn compare_all(program: &OsStr, tapes: &Tapes, count: usize) -> Sums {
 }
 
 fn compare_one(program: &OsStr, index: usize, tape: &[u8], sums: &Mutex<Sums>) {
-    let mut expected = Vec::new();
-    let totals = listing::run(tape, &mut expected);
+    let listing = Listing::of(tape);
+    let expected = listing.text.as_bytes();
     let seen = Seen::of(tape);
     let at_the_limit = (TAPE_LIMIT..=TAPE_LIMIT + 1).contains(&tape.len());
     let in_pieces = at_the_limit || index % PIECES_EVERY == 1;
-    let result = tape_program::run(program, tape, in_pieces, expected.len());
+    let by_program = tape_program::run(program, tape, in_pieces, expected.len());
+    let mut by_second_model = Vec::new();
+    second_model::listing::run(tape, &mut by_second_model);
     let mut sums = sums.lock().unwrap();
-    sums.add(&totals, &seen);
-    let difference = match result {
-        Ok(printed) if printed == expected => return,
-        Ok(printed) => first_difference(&expected, &printed),
-        Err(error) => error,
-    };
+    sums.add(&listing, &seen);
+    let differences: Vec<String> = [("the program", by_program), ("the second model", Ok(by_second_model))]
+        .into_iter()
+        .filter_map(|(name, printed)| match printed {
+            Ok(printed) if printed == expected => None,
+            Ok(printed) => Some(first_difference(name, expected, &printed)),
+            Err(error) => Some(error),
+        })
+        .collect();
+    if differences.is_empty() {
+        return;
+    }
     sums.differences += 1;
-    println!("tape {index}, {} bytes: {difference}", tape.len());
+    println!("tape {index}, {} bytes: {}", tape.len(), differences.join("; "));
     match save_tape(index, tape) {
         Ok(file) => println!("  the tape in hexadecimal: {file}"),
         Err(error) => println!("  the tape could not be saved: {error}"),
     }
 }
 
-fn first_difference(expected: &[u8], printed: &[u8]) -> String {
+fn first_difference(name: &str, expected: &[u8], printed: &[u8]) -> String {
     let lines = |text: &[u8]| -> Vec<Vec<u8>> { text.split_inclusive(|&byte| byte == b'\n').map(<[u8]>::to_vec).collect() };
     let (expected, printed) = (lines(expected), lines(printed));
     let mut at = 0;
@@ -73,7 +82,7 @@ fn first_difference(expected: &[u8], printed: &[u8]) -> String {
         Some(line) => format!("\"{}\"", line.escape_ascii()),
         None => "nothing".to_string(),
     };
-    format!("line {} differs\n  model:   {}\n  program: {}", at + 1, show(expected.get(at)), show(printed.get(at)))
+    format!("line {} by {name} differs\n  expected: {}\n  given:    {}", at + 1, show(expected.get(at)), show(printed.get(at)))
 }
 
 fn save_tape(index: usize, tape: &[u8]) -> std::io::Result<String> {

@@ -1,11 +1,10 @@
 //! What the tapes showed.
 
+use calls::listing::{Listing, NUMBERS};
 use common::program::Shown;
 use common::sights::Sights;
 use second_model::coverage::{self, Temperatures, Withdrawals, NAME_SIGHTS};
 use second_model::generate::UNDONE_RECEIVES;
-use second_model::listing::Totals;
-use second_model::ring::REFUSAL_NUMBERS;
 
 /// Fewer deliveries for each drawn tape would mean that the tapes test little.
 const DELIVERIES_FLOOR: u64 = 20;
@@ -38,7 +37,7 @@ pub struct Sums {
     too_long: u64,
     commands: u64,
     deliveries: u64,
-    refusals: [u64; REFUSAL_NUMBERS],
+    refusals: [u64; NUMBERS],
     seen: Seen,
     pub differences: usize,
 }
@@ -46,17 +45,15 @@ pub struct Sums {
 impl Sums {
     pub fn new() -> Sums {
         let seen = Seen { withdrawals: Withdrawals::default(), names: Sights::of(NAME_SIGHTS), temperatures: Temperatures::default() };
-        Sums { tapes: 0, too_long: 0, commands: 0, deliveries: 0, refusals: [0; REFUSAL_NUMBERS], seen, differences: 0 }
+        Sums { tapes: 0, too_long: 0, commands: 0, deliveries: 0, refusals: [0; NUMBERS], seen, differences: 0 }
     }
 
-    pub fn add(&mut self, totals: &Totals, seen: &Seen) {
+    pub fn add(&mut self, listing: &Listing, seen: &Seen) {
         self.tapes += 1;
-        self.too_long += u64::from(totals.too_long);
-        self.commands += u64::from(totals.accepted + totals.refused);
-        self.deliveries += u64::from(totals.delivered);
-        for (sum, &count) in self.refusals.iter_mut().zip(&totals.refusals) {
-            *sum += u64::from(count);
-        }
+        self.too_long += u64::from(listing.too_long);
+        self.commands += listing.commands();
+        self.deliveries += listing.deliveries;
+        self.refusals.iter_mut().zip(listing.answers).for_each(|(sum, count)| *sum += count);
         self.seen.withdrawals.add(&seen.withdrawals);
         self.seen.names.add(&seen.names);
         self.seen.temperatures.add(&seen.temperatures);
