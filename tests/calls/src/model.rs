@@ -196,13 +196,13 @@ impl Network {
         for (p, node) in self.nodes.iter().enumerate() {
             for &k in &node.line {
                 met[k] += 1;
-                if self.ends(k).is_none_or(|(entry, _)| entry != p) {
+                if !self.ends(k).is_some_and(|(entry, _)| entry == p) {
                     return false;
                 }
             }
             for &k in &node.buffer {
                 met[k] += 1;
-                if self.ends(k).is_none_or(|(entry, target)| !self.way(entry, target).contains(&p)) {
+                if !self.ends(k).is_some_and(|(entry, target)| self.way(entry, target).contains(&p)) {
                     return false;
                 }
             }
