@@ -7,6 +7,7 @@ mod dispatch;
 mod single;
 
 use second_model::listing;
+use std::path::Path;
 use std::process::ExitCode;
 use std::time::Instant;
 
@@ -66,8 +67,9 @@ fn compare(file: &str, rounds: usize) -> Result<(), String> {
     for list in times.iter_mut().chain([&mut ratios]) {
         list.sort_by(f64::total_cmp);
     }
+    let name = Path::new(file).file_name().unwrap_or_default().to_string_lossy();
     println!(
-        "{file}: {commands} commands, proved {:.0}/s, model {:.0}/s, ratio {:.2} ({:.2} to {:.2})",
+        "{name}: {commands} commands, proved {:.0}/s, model {:.0}/s, ratio {:.2} ({:.2} to {:.2})",
         commands / at(&times[0], 0.5),
         commands / at(&times[1], 0.5),
         at(&ratios, 0.5),

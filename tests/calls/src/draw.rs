@@ -1,7 +1,7 @@
 //! What is drawn: records, rings made by calls and by hand, and calls with arguments in and out of range.
 
 use crate::model::{Call, Channel, Network, Node, Phase, Record, HUNDREDTHS, TENTHS};
-pub use second_model::generate::Random;
+use common::random::Random;
 use second_model::generate::{EDGE_HUNDREDTHS, EDGE_TENTHS};
 use std::collections::VecDeque;
 use std::ops::RangeInclusive;

@@ -1,28 +1,16 @@
 //! How a network lies in memory (include/vessel_ring.h), and back.
 
 use crate::model::{Channel, Network, Node, Phase, Record};
+use common::layout::{self, LENGTH};
 use std::collections::VecDeque;
-use vessel_ring::{Ring, CHANNELS, NODES, RECORD_BYTES, ROW};
+use vessel_ring::{Ring, RECORD_BYTES, ROW};
 
-/// "Batch number 4, vessel 1, temperature 2, name length 1, name 32", low byte first
 pub fn record_bytes(record: &Record) -> [u8; RECORD_BYTES] {
-    let mut bytes = [0; RECORD_BYTES];
-    bytes[..4].copy_from_slice(&record.batch.to_le_bytes());
-    bytes[4] = record.vessel;
-    bytes[5..7].copy_from_slice(&record.temperature.to_le_bytes());
-    bytes[7] = record.length;
-    bytes[8..].copy_from_slice(&record.name);
-    bytes
+    layout::record_bytes(&to_c(*record))
 }
 
 pub fn record_in(bytes: &[u8; RECORD_BYTES]) -> Record {
-    Record {
-        batch: u32::from_le_bytes([bytes[0], bytes[1], bytes[2], bytes[3]]),
-        vessel: bytes[4],
-        temperature: i16::from_le_bytes([bytes[5], bytes[6]]),
-        length: bytes[7],
-        name: bytes[8..].try_into().expect("32 bytes"),
-    }
+    from_c(layout::record_in(bytes))
 }
 
 /// Whether a record in the ring has a name with a blank at an end. Where there is no record all is zero.
@@ -41,26 +29,6 @@ pub fn from_c(record: vessel_ring::Record) -> Record {
     Record { batch, vessel, temperature, length: name_length, name }
 }
 
-const EMPTY: Ring = Ring {
-    deliveries: 0,
-    started: 0,
-    node_count: 0,
-    channel_count: 0,
-    spare: 0,
-    capacity: [0; NODES],
-    used: [0; NODES],
-    waiting: [0; NODES],
-    marks: [0; NODES],
-    senders: [0; CHANNELS],
-    receivers: [0; CHANNELS],
-    phases: [0; CHANNELS],
-    offered: [0; CHANNELS],
-    slots: [[0; ROW]; NODES],
-    lines: [[0; ROW]; NODES],
-    offers: [[0; RECORD_BYTES]; CHANNELS],
-    carried: [[0; RECORD_BYTES]; CHANNELS],
-};
-
 fn lay_queue(queue: &VecDeque<usize>, row: &mut [u8; ROW]) -> u8 {
     for (cell, k) in row.iter_mut().zip(queue) {
         *cell = *k as u8 + 1;
@@ -70,7 +38,7 @@ fn lay_queue(queue: &VecDeque<usize>, row: &mut [u8; ROW]) -> u8 {
 
 /// The ring of a network, whose counts fit.
 pub fn lay(network: &Network) -> Ring {
-    let mut ring = EMPTY;
+    let mut ring = Ring::from_bytes(&[0; LENGTH]);
     ring.deliveries = network.deliveries;
     ring.started = network.started.into();
     ring.node_count = network.nodes.len() as u8;

@@ -7,80 +7,72 @@
 
 mod blanks;
 mod orders;
-mod sights;
 mod turns;
 
 use blanks::Blanks;
-use calls::draw::{self, Random};
-use calls::form::{self, from_c, to_c};
+use calls::form::{self, to_c};
 use calls::model::{Answer, Call, Network};
-use calls::second;
 use calls::tape::{self, Read};
-use damaged_rings::damage::{change_place, change_whole};
+use calls::{draw, library, second};
+use common::layout::{first_difference, put_temperature, LENGTH};
+use common::program::{self, Shown};
+use common::random::Random;
+use common::sights::Sights;
+use damaged_rings::damage;
 use orders::Orders;
-use second_model::coverage::{Temperatures, TEMPERATURE_SIGHTS};
+use second_model::coverage::Temperatures;
 use second_model::ring::Unit;
-use sights::Sights;
 use std::process::ExitCode;
 use turns::{Turns, Waiting};
 use vessel_ring::{Command, Reading, Ring};
 
-/// Accepted withdrawals; those of them that left a marked line empty, so that the mark went; and those that took the first out of a marked
-/// line with others behind it, so that the mark stayed.
-#[derive(Default)]
-struct Withdrawals {
-    all: u64,
-    marks_cleared: u64,
-    marks_kept: u64,
-}
+/// What has to be seen of withdrawals, and of the two commands that send.
+const SIGHTS: [&str; 7] = [
+    "withdraw: accepted",
+    "withdraw: a mark cleared, of a line left empty",
+    "withdraw: a mark kept, of a line whose first was taken out",
+    "read: command 21",
+    "read: command 25",
+    "written: command 21",
+    "written: command 25",
+];
 
-impl Withdrawals {
-    /// An accepted withdrawal, with the ring before it.
-    fn add(&mut self, before: &Ring, channel: u8) {
-        let receiver = usize::from(before.receivers[usize::from(channel)]);
-        let first = before.lines[receiver][0] == channel + 1;
-        self.all += 1;
-        if before.marks[receiver] == 1 && first {
-            self.marks_cleared += u64::from(before.waiting[receiver] == 1);
-            self.marks_kept += u64::from(before.waiting[receiver] > 1);
-        }
-    }
-}
-
-/// What has to be seen of the two commands that send.
-const COMMAND_SIGHTS: [&str; 4] = ["read: command 21", "read: command 25", "written: command 21", "written: command 25"];
-
-/// How often each refusal was answered; 0 is none.
+/// What was seen.
 struct Tally {
     calls: u64,
-    refusals: [u64; 31],
     deliveries: u64,
-    withdrawals: Withdrawals,
+    damaged: u64,
+    still_sound: u64,
+    commands: u64,
+    sights: Sights,
     blanks: Blanks,
     temperatures: Temperatures,
     turns: Turns,
     orders: Orders,
-    damaged: u64,
-    still_sound: u64,
-    commands: u64,
-    command_sights: Sights,
 }
 
 impl Tally {
     fn new() -> Tally {
+        // 29 is of the history alone.
+        let refusals = (1..=30).filter(|number| *number != 29).map(|number| format!("refusal {number}"));
         Tally {
             calls: 0,
-            refusals: [0; 31],
             deliveries: 0,
-            withdrawals: Withdrawals::default(),
-            blanks: Blanks::default(),
-            temperatures: Temperatures::default(),
-            turns: Turns::default(),
-            orders: Orders::default(),
             damaged: 0,
             still_sound: 0,
             commands: 0,
-            command_sights: Sights::of(&COMMAND_SIGHTS),
+            sights: Sights::of(refusals.chain(SIGHTS.map(String::from))),
+            blanks: Blanks::new(),
+            temperatures: Temperatures::default(),
+            turns: Turns::new(),
+            orders: Orders::new(),
+        }
+    }
+
+    /// A refusal's number, or 0.
+    fn answered(&mut self, number: u8) {
+        if number != 0 {
+            self.sights.see(true, &format!("refusal {number}"));
         }
     }
 
@@ -94,92 +86,31 @@ impl Tally {
         self.temperatures.look(&fields, answer.number());
     }
 
-    /// What has to be seen of temperatures and of commands.
-    fn sights(&self) -> impl Iterator<Item = (String, u64)> + '_ {
-        let temperatures = TEMPERATURE_SIGHTS.iter().zip(self.temperatures.sights);
-        let sends = temperatures.map(|(name, times)| (format!("send: {name}"), times.into()));
-        sends.chain(self.command_sights.counts())
+    /// An accepted withdrawal, with the ring before it: a marked line may be left empty, so that the mark goes, or with others behind the
+    /// first, so that it stays.
+    fn withdrawn(&mut self, before: &Ring, channel: u8) {
+        let receiver = usize::from(before.receivers[usize::from(channel)]);
+        let first = before.lines[receiver][0] == channel + 1;
+        let marked = before.marks[receiver] == 1 && first;
+        self.sights.see(true, "withdraw: accepted");
+        self.sights.see(marked && before.waiting[receiver] == 1, "withdraw: a mark cleared, of a line left empty");
+        self.sights.see(marked && before.waiting[receiver] > 1, "withdraw: a mark kept, of a line whose first was taken out");
     }
 
-    fn print(&self) {
+    fn shown(&self) -> Shown {
         let Tally { calls, deliveries, damaged, still_sound, commands, .. } = self;
-        println!("{calls} calls, {deliveries} deliveries; {damaged} damaged rings, {still_sound} still sound; {commands} commands read or written");
-        let Withdrawals { all, marks_cleared, marks_kept } = self.withdrawals;
-        println!("{all} withdrawals: marks cleared {marks_cleared}, marks kept {marks_kept}");
-        self.blanks.print();
-        self.sights().for_each(|(name, times)| println!("{times:8} {name}"));
-        self.turns.print();
-        self.orders.print();
-        for (number, times) in self.refusals.iter().enumerate().skip(1) {
-            print!("{number}:{times} ");
-        }
-        println!();
-    }
-
-    /// What has to be seen and was not. 29 is of the history alone.
-    fn missing(&self) -> Vec<String> {
-        let numbers = self.refusals.iter().enumerate().filter(|(number, _)| ![0, 29].contains(number));
-        let refusals = numbers.map(|(number, times)| (format!("refusal {number}"), *times));
-        let Withdrawals { all, marks_cleared, marks_kept } = self.withdrawals;
-        let withdrawals = [
-            ("a withdrawal", all),
-            ("a withdrawal that clears a mark", marks_cleared),
-            ("a withdrawal of the first that keeps a mark", marks_kept),
-        ];
-        let withdrawals = withdrawals.map(|(name, times)| (name.to_string(), times));
-        let sights = self.blanks.sights().chain(self.sights()).chain(self.turns.sights()).chain(self.orders.sights());
-        refusals.chain(withdrawals).chain(sights).filter(|(_, times)| *times == 0).map(|(name, _)| name).collect()
-    }
-}
-
-fn plain(refusal: u8) -> Answer {
-    if refusal == 0 {
-        Answer::Done
-    } else {
-        Answer::Refused(refusal)
-    }
-}
-
-/// The call by the library. A field that the answer does not have has to be zero.
-fn library(ring: &mut Ring, call: Call) -> Answer {
-    match call {
-        Call::AddNode(slots) => plain(ring.add_node(slots)),
-        Call::AddChannel(sender, receiver) => plain(ring.add_channel(sender, receiver)),
-        Call::Start => plain(ring.start()),
-        Call::Receive(channel) => plain(ring.receive(channel)),
-        Call::Send(channel, record) => plain(ring.send(channel, to_c(record))),
-        Call::SendTenths(channel, record) => plain(ring.send_tenths(channel, to_c(record))),
-        Call::Enter(node) => plain(ring.enter(node)),
-        Call::Move(node) => {
-            let moved = ring.move_on(node);
-            if moved.delivered == 1 {
-                assert_eq!(moved.refusal, 0, "a delivery is no refusal");
-                return Answer::Delivered(moved.channel.into(), from_c(moved.record));
-            }
-            let blank = vessel_ring::Delivery { refusal: moved.refusal, ..Default::default() };
-            assert_eq!(moved, blank, "no delivery, so nothing beside the refusal");
-            plain(moved.refusal)
-        }
-        Call::Withdraw(channel) => plain(ring.withdraw(channel)),
-        Call::HopsLeft(channel) => {
-            let left = ring.hops_left(channel);
-            assert!(left.refusal == 0 || left.hops == 0, "a refusal answers its number alone");
-            if left.refusal == 0 {
-                Answer::Hops(left.hops.into())
-            } else {
-                Answer::Refused(left.refusal)
-            }
-        }
-        Call::WaitingSet(node) => {
-            let waiting = ring.waiting_set(node);
-            assert!(waiting.refusal == 0 || waiting.set == 0, "a refusal answers its number alone");
-            assert_eq!(waiting.tasks, waiting.set.count_ones(), "the tasks are the ones of the set");
-            if waiting.refusal == 0 {
-                Answer::Waiting(waiting.set)
-            } else {
-                Answer::Refused(waiting.refusal)
-            }
-        }
+        let figures = format!(
+            "{calls} calls, {deliveries} deliveries; {damaged} damaged rings, {still_sound} still sound; {commands} commands read or written\n\
+             {} rings turned into hundredths, {} refused; {} pairs of entries and moves with no common node, in both orders",
+            self.turns.turned, self.turns.refused, self.orders.pairs
+        );
+        let mut sights = self.sights.clone();
+        sights.take_in("send: ", &self.blanks.sends);
+        sights.take_in("send: ", &self.temperatures.sights);
+        sights.take_in("", &self.blanks.held);
+        sights.take_in("", &self.turns.sights);
+        sights.take_in("orders: ", &self.orders.sights);
+        Shown { figures, sights }
     }
 }
 
@@ -197,24 +128,20 @@ impl Pair {
     /// One call on both, and what it answers. Says what differs.
     fn call(&mut self, call: Call, tally: &mut Tally) -> Result<Answer, String> {
         let before = self.ring;
-        let given = library(&mut self.ring, call);
+        let given = library::call(&mut self.ring, call);
         let expected = self.model.as_mut().map_or(Answer::Refused(25), |network| network.call(call));
         let after = self.model.as_ref().map_or(before, form::lay);
         tally.calls += 1;
-        match given {
-            Answer::Refused(number) => tally.refusals[usize::from(number)] += 1,
-            Answer::Delivered(..) => tally.deliveries += 1,
-            _ => tally.refusals[0] += 1,
-        }
+        tally.deliveries += u64::from(matches!(given, Answer::Delivered(..)));
+        tally.answered(given.number());
         if given != expected {
             return Err(format!("{call:?}: the library answers {given:?}, the model {expected:?}\nbefore: {before:?}"));
         }
         if let (Call::Withdraw(channel), Answer::Done) = (call, given) {
-            tally.withdrawals.add(&before, channel);
+            tally.withdrawn(&before, channel);
         }
-        if self.ring != after {
-            let at = self.ring.to_bytes().iter().zip(after.to_bytes()).position(|(a, b)| *a != b);
-            return Err(format!("{call:?}, {given:?}: the rings differ, first at byte {at:?}\nbefore: {before:?}"));
+        if let Some(difference) = first_difference(&self.ring.to_bytes(), &after.to_bytes()) {
+            return Err(format!("{call:?}, {given:?}: the rings differ, first in {difference}\nbefore: {before:?}"));
         }
         if self.model.is_some() && second::call(&before, call) != (given, self.ring) {
             return Err(format!("{call:?}, {given:?}: the second model differs\nbefore: {before:?}"));
@@ -261,13 +188,7 @@ fn sound_run(random: &mut Random, tally: &mut Tally) -> Result<Pair, String> {
 /// The ring with bytes changed.
 fn changed(ring: &Ring, random: &mut Random) -> Ring {
     let mut bytes = ring.to_bytes();
-    if random.percent(5) {
-        change_whole(&mut bytes, random);
-    } else {
-        for _ in 0..random.between(1, 3) {
-            change_place(&mut bytes, random);
-        }
-    }
+    damage::change(&mut bytes, random);
     Ring::from_bytes(&bytes)
 }
 
@@ -288,7 +209,7 @@ fn turned_run(mut network: Network, random: &mut Random, tally: &mut Tally) -> R
         }
     }
     let mut stray = ring;
-    stray.offers[random.below(64)][5..7].copy_from_slice(&i16::MIN.to_le_bytes());
+    put_temperature(&mut stray.offers[random.below(64)], i16::MIN);
     tally.turns.turn(&stray)?;
     tally.turns.turn_damaged(&changed(&ring, random))?;
     if draw::put_one_out(random, &mut network) {
@@ -352,20 +273,20 @@ fn commands(random: &mut Random, tally: &mut Tally) -> Result<(), String> {
     let before = tape.clone();
     let writing = vessel_ring::write(&mut tape, place, command);
     tally.commands += 1;
-    tally.refusals[usize::from(writing.refusal)] += 1;
+    tally.answered(writing.refusal);
     let given = if writing.refusal == 0 { Ok(writing.next) } else { Err(writing.refusal) };
     if given != expected || tape != by_model || (given.is_err() && writing.next != 0) {
         return Err(format!("{command:?} written at {place} of {before:?}: {writing:?}, {tape:?}; the model: {expected:?}"));
     }
-    tally.command_sights.see(given.is_ok() && command.code == 0x21, "written: command 21");
-    tally.command_sights.see(given.is_ok() && command.code == 0x25, "written: command 25");
+    tally.sights.see(given.is_ok() && command.code == 0x21, "written: command 21");
+    tally.sights.see(given.is_ok() && command.code == 0x25, "written: command 25");
     compare_reading(&tape, place, tally)
 }
 
 fn compare_reading(tape: &[u8], place: usize, tally: &mut Tally) -> Result<(), String> {
     let reading = vessel_ring::read(tape, place);
     tally.commands += 1;
-    tally.refusals[usize::from(reading.refusal)] += 1;
+    tally.answered(reading.refusal);
     let expected = tape::read(tape, place);
     let same = match expected {
         Read::Command(call, next) => {
@@ -377,28 +298,29 @@ fn compare_reading(tape: &[u8], place: usize, tally: &mut Tally) -> Result<(), S
     if !same {
         return Err(format!("{tape:?} at {place}: {reading:?}; the model: {expected:?}"));
     }
-    tally.command_sights.see(reading.command.code == 0x21, "read: command 21");
-    tally.command_sights.see(reading.command.code == 0x25, "read: command 25");
+    tally.sights.see(reading.command.code == 0x21, "read: command 21");
+    tally.sights.see(reading.command.code == 0x25, "read: command 25");
     Ok(())
 }
 
 /// All bytes FF: refused by all ten calls.
 fn all_ff(tally: &mut Tally, random: &mut Random) -> Result<(), String> {
-    let mut pair = Pair::of(Ring::from_bytes(&[0xFF; 7496]));
+    let mut pair = Pair::of(Ring::from_bytes(&[0xFF; LENGTH]));
     for _ in 0..40 {
         pair.call(draw::any_call(random, 16, 64), tally)?;
     }
     Ok(())
 }
 
-fn compare(count: u64, seed: u64, tally: &mut Tally) -> Result<(), String> {
+fn compare(count: u64, seed: u64) -> Result<Shown, String> {
+    let tally = &mut Tally::new();
     all_ff(tally, &mut Random::new(seed))?;
     tally.turns.turn(&Ring::fresh())?;
-    tally.turns.turn(&Ring::from_bytes(&[0xFF; 7496]))?;
+    tally.turns.turn(&Ring::from_bytes(&[0xFF; LENGTH]))?;
     turned_run(draw::full(&mut Random::new(seed)), &mut Random::new(seed), tally)?;
     let mut run = 0;
     while tally.calls < count {
-        let mut random = Random::new(seed.wrapping_mul(0x9E37_79B9_7F4A_7C15) ^ run);
+        let mut random = Random::of_run(seed, run);
         let in_run = |difference| format!("seed {seed}, run {run}: {difference}");
         let pair = sound_run(&mut random, tally).map_err(in_run)?;
         for _ in 0..3 {
@@ -410,26 +332,9 @@ fn compare(count: u64, seed: u64, tally: &mut Tally) -> Result<(), String> {
         }
         run += 1;
     }
-    Ok(())
+    Ok(tally.shown())
 }
 
 fn main() -> ExitCode {
-    let numbers: Vec<Option<u64>> = std::env::args().skip(1).map(|word| word.parse().ok()).collect();
-    let [Some(count), Some(seed)] = numbers[..] else {
-        eprintln!("calls COUNT SEED");
-        return ExitCode::from(2);
-    };
-    let mut tally = Tally::new();
-    if let Err(difference) = compare(count, seed, &mut tally) {
-        println!("{difference}");
-        return ExitCode::FAILURE;
-    }
-    tally.print();
-    let missing = tally.missing();
-    if !missing.is_empty() {
-        println!("never: {}", missing.join(", "));
-        return ExitCode::FAILURE;
-    }
-    println!("no difference");
-    ExitCode::SUCCESS
+    program::run("calls", compare)
 }

@@ -176,9 +176,10 @@ impl Network {
         if n > 16 || c > 64 || self.channels.iter().any(|channel| channel.sender >= n || channel.receiver >= n) {
             return false;
         }
-        let nodes_good = self.nodes.iter().all(|node| {
-            (1..=64).contains(&node.slots) && node.buffer.len() <= node.slots && !(node.mark && node.line.is_empty())
-        });
+        let nodes_good = self
+            .nodes
+            .iter()
+            .all(|node| (1..=64).contains(&node.slots) && node.buffer.len() <= node.slots && !(node.mark && node.line.is_empty()));
         let channels_good = self.channels.iter().all(|channel| {
             let carried = match channel.phase {
                 Phase::Answering(record) => Some(record),
@@ -195,13 +196,13 @@ impl Network {
         for (p, node) in self.nodes.iter().enumerate() {
             for &k in &node.line {
                 met[k] += 1;
-                if self.ends(k).is_none_or(|(entry, _)| entry != p) {
+                if !self.ends(k).is_some_and(|(entry, _)| entry == p) {
                     return false;
                 }
             }
             for &k in &node.buffer {
                 met[k] += 1;
-                if self.ends(k).is_none_or(|(entry, target)| !self.way(entry, target).contains(&p)) {
+                if !self.ends(k).is_some_and(|(entry, target)| self.way(entry, target).contains(&p)) {
                     return false;
                 }
             }

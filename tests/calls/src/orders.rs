@@ -1,9 +1,10 @@
 //! Two fitters at two ends: request N7 of document 02. Entries and moves of the library in both orders, and what has to be seen of them.
 
-use crate::library;
-use crate::sights::Sights;
-use calls::draw::Random;
+use calls::library;
 use calls::model::{Answer, Call};
+use common::layout::first_difference;
+use common::random::Random;
+use common::sights::Sights;
 use vessel_ring::{Ring, CHANNELS, NODES};
 
 const ASKING: u8 = 1;
@@ -44,14 +45,8 @@ const BESIDE: [(u8, &str); 6] = [
 ];
 
 pub struct Orders {
-    pairs: u64,
-    sights: Sights,
-}
-
-impl Default for Orders {
-    fn default() -> Orders {
-        Orders { pairs: 0, sights: Sights::of(&SIGHTS) }
-    }
+    pub pairs: u64,
+    pub sights: Sights,
 }
 
 /// The nodes that a call touches: an entry its own, a move its own and the next.
@@ -75,11 +70,15 @@ fn traffic(ring: &Ring) -> Vec<Call> {
 /// What the first call answers, what the other answers after it, and the ring then.
 fn in_order(ring: &Ring, first: Call, then: Call) -> (Answer, Answer, Ring) {
     let mut ring = *ring;
-    let answer = library(&mut ring, first);
-    (answer, library(&mut ring, then), ring)
+    let answer = library::call(&mut ring, first);
+    (answer, library::call(&mut ring, then), ring)
 }
 
 impl Orders {
+    pub fn new() -> Orders {
+        Orders { pairs: 0, sights: Sights::of(SIGHTS) }
+    }
+
     /// All pairs of entries and moves on a ring.
     pub fn every_pair(&mut self, ring: &Ring) -> Result<(), String> {
         let traffic = traffic(ring);
@@ -110,9 +109,8 @@ impl Orders {
         if (first_a, first_b) != (then_a, then_b) {
             return Err(format!("{a:?} {b:?}: {first_a:?} {then_b:?}, in the other order {then_a:?} {first_b:?}\nbefore: {ring:?}"));
         }
-        let at = by_a.to_bytes().iter().zip(by_b.to_bytes()).position(|(x, y)| *x != y);
-        if at.is_some() {
-            return Err(format!("{a:?} {b:?}: in the other order another ring, first at byte {at:?}\nbefore: {ring:?}"));
+        if let Some(difference) = first_difference(&by_a.to_bytes(), &by_b.to_bytes()) {
+            return Err(format!("{a:?} {b:?}: in the other order another ring, first in {difference}\nbefore: {ring:?}"));
         }
         self.kinds(ring, a, b);
         self.answers(ring, &by_a, first_a, first_b);
@@ -151,14 +149,5 @@ impl Orders {
         see(deliveries == 1 && (taken || answered), "a delivery, and a request taken");
         see(answered, "a response that joins a line, and the other accepted");
         see(marked(0, 1) && marked(1, 0), "a turn mark set, and another cleared");
-    }
-
-    pub fn print(&self) {
-        println!("{} pairs of entries and moves with no common node, in both orders", self.pairs);
-        self.sights().for_each(|(name, times)| println!("{times:8} {name}"));
-    }
-
-    pub fn sights(&self) -> impl Iterator<Item = (String, u64)> + '_ {
-        self.sights.counts().map(|(name, times)| (format!("orders: {name}"), times))
     }
 }

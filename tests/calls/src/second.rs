@@ -1,11 +1,11 @@
 //! The same call by `tests/second_model`, on a sound ring: a third opinion.
 
-use crate::form::record_in;
+use crate::form::from_c;
 use crate::model::{Answer, Call, Record};
 use damaged_rings::expected;
-use damaged_rings::layout::{lay_out, put_record, read_back};
+use damaged_rings::form::{lay_out, read_back, to_c};
 use second_model::ring::{BatchNumber, ChannelNumber, Delivery, Fields, NodeNumber, Refusal, Unit};
-use vessel_ring::{Ring, RECORD_BYTES};
+use vessel_ring::Ring;
 
 /// The answer and the ring after it.
 pub fn call(ring: &Ring, call: Call) -> (Answer, Ring) {
@@ -41,7 +41,5 @@ pub fn turned(ring: &Ring) -> Option<Ring> {
 }
 
 fn delivered(delivery: Delivery) -> Answer {
-    let mut bytes = [0; RECORD_BYTES];
-    put_record(&mut bytes, &delivery.record);
-    Answer::Delivered(delivery.channel.0.into(), record_in(&bytes))
+    Answer::Delivered(delivery.channel.0.into(), from_c(to_c(&delivery.record)))
 }

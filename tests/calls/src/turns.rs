@@ -1,10 +1,11 @@
 //! Rings held in tenths, turned into hundredths: request N5 of document 02. The library's call against both models, and what has to be seen
 //! of it.
 
-use crate::sights::Sights;
 use calls::form::{self, record_in};
 use calls::model::{Record, HUNDREDTHS, TENTHS};
 use calls::second;
+use common::layout::{first_difference, put_temperature};
+use common::sights::Sights;
 use std::collections::VecDeque;
 use vessel_ring::{Ring, CHANNELS, RECORD_BYTES, UNSOUND_RING};
 
@@ -47,15 +48,9 @@ const SIGHTS: [&str; 35] = [
 ];
 
 pub struct Turns {
-    turned: u64,
-    refused: u64,
-    sights: Sights,
-}
-
-impl Default for Turns {
-    fn default() -> Turns {
-        Turns { turned: 0, refused: 0, sights: Sights::of(&SIGHTS) }
-    }
+    pub turned: u64,
+    pub refused: u64,
+    pub sights: Sights,
 }
 
 /// The temperatures that a ring holds, offered and carried.
@@ -90,6 +85,10 @@ fn wraps(temperature: i16) -> bool {
 }
 
 impl Turns {
+    pub fn new() -> Turns {
+        Turns { turned: 0, refused: 0, sights: Sights::of(SIGHTS) }
+    }
+
     /// The call by the library and by both models: the ring turned, or nothing where it is refused. Says what differs.
     pub fn turn(&mut self, ring: &Ring) -> Result<Option<Ring>, String> {
         let mut after = *ring;
@@ -99,9 +98,8 @@ impl Turns {
             if answer != expected {
                 return Err(format!("turned into hundredths: the library answers {answer}, {name} {expected}\nbefore: {ring:?}"));
             }
-            let at = after.to_bytes().iter().zip(turned.unwrap_or(*ring).to_bytes()).position(|(a, b)| *a != b);
-            if at.is_some() {
-                return Err(format!("turned into hundredths, {answer}: not as by {name}, first at byte {at:?}\nbefore: {ring:?}"));
+            if let Some(difference) = first_difference(&after.to_bytes(), &turned.unwrap_or(*ring).to_bytes()) {
+                return Err(format!("turned into hundredths, {answer}: not as by {name}, first in {difference}\nbefore: {ring:?}"));
             }
         }
         if answer == 0 {
@@ -189,21 +187,12 @@ impl Turns {
         see(wraps(out), "refused: for a record carried alone whose temperature, ten times and cut to 16 bits, is in range");
         see(HUNDREDTHS.contains(&out), "refused: for a temperature carried alone that is good in hundredths");
     }
-
-    pub fn print(&self) {
-        println!("{} rings turned into hundredths, {} refused", self.turned, self.refused);
-        self.sights().for_each(|(name, times)| println!("{times:8} {name}"));
-    }
-
-    pub fn sights(&self) -> impl Iterator<Item = (String, u64)> + '_ {
-        self.sights.counts()
-    }
 }
 
 /// Whether the ring is sound in tenths but for the temperature of this record.
 fn is_turned_without(ring: &Ring, records: fn(&mut Ring) -> &mut [[u8; RECORD_BYTES]; CHANNELS], k: usize) -> bool {
     let mut mended = *ring;
-    records(&mut mended)[k][5..7].fill(0);
+    put_temperature(&mut records(&mut mended)[k], 0);
     form::turned(&mended).is_some()
 }
 

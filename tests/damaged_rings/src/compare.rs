@@ -4,15 +4,17 @@
 
 use crate::damage::{change_place, change_whole, ALWAYS_SOUND, KINDS, NO_TENTHS};
 use crate::expected;
-use crate::layout::{
-    change_temperatures, channels, deliveries, lay_out, nodes, record_bytes, Bytes, Each, CAPACITY,
-    CARRIED, CHANNEL_COUNT, LENGTH, LINES, MARKS, NODE_COUNT, OFFERED, OFFERS, PARTS, PHASES,
-    RECEIVERS, SENDERS, SLOTS, SPARE, STARTED, USED, WAITING,
-};
+use crate::form::{change_temperatures, lay_out};
 use crate::rings::Rings;
-use second_model::generate::Random;
-use second_model::ring::{CHANNELS, NODES, SLOTS as ROW};
+use common::layout::{
+    channels, deliveries, first_difference, name_of, nodes, record_at, Bytes, CAPACITY, CARRIED, CHANNEL_COUNT, LENGTH, LINES, MARKS,
+    NODE_COUNT, OFFERED, OFFERS, PHASES, RECEIVERS, SENDERS, SLOTS, SPARE, STARTED, USED, WAITING,
+};
+use common::program::Shown;
+use common::random::Random;
+use common::sights::Sights;
 use std::fmt::Write;
+use vessel_ring::{CHANNELS, NODES, ROW, UNSOUND_RING};
 
 /// At most so many places are changed in a ring, and at least none; each number
 /// of them is drawn as often as the others.
@@ -23,8 +25,6 @@ const WHOLE_EVERY: usize = 64;
 const LEAST_SHARE: u64 = 5;
 /// Rings that are turned are at least one of so many.
 const LEAST_TURNED_SHARE: u64 = 10;
-/// What a ring that is not sound in tenths is refused with.
-const UNSOUND: u8 = 25;
 /// So many changed places are printed, and no more.
 const PLACES_PRINTED: usize = 60;
 
@@ -77,12 +77,7 @@ impl Cases {
 /// Judges and turns `count` rings. A verdict is 1 for a sound ring and 0 for another;
 /// a turned ring is answered with 0, another with 25 and as it was. The first that is
 /// not as expected is answered as text.
-pub fn compare(
-    count: u64,
-    seed: u64,
-    verdict: impl Fn(&Bytes) -> u8,
-    turn: impl Fn(&mut Bytes) -> u8,
-) -> Result<Sums, String> {
+pub fn compare(count: u64, seed: u64, verdict: impl Fn(&Bytes) -> u8, turn: impl Fn(&mut Bytes) -> u8) -> Result<Sums, String> {
     let mut cases = Cases::new(seed);
     let mut sums = Sums::new();
     for number in 1..=count {
@@ -104,21 +99,15 @@ pub fn compare(
 
 /// What is wrong where a ring is turned into another than expected, which is nothing
 /// for a ring that is to be refused.
-fn turned_wrong(
-    bytes: &Bytes,
-    expected: Option<&Bytes>,
-    turn: &impl Fn(&mut Bytes) -> u8,
-) -> Option<String> {
+fn turned_wrong(bytes: &Bytes, expected: Option<&Bytes>, turn: &impl Fn(&mut Bytes) -> u8) -> Option<String> {
     let mut after = *bytes;
     let answer = turn(&mut after);
-    let right = if expected.is_some() { 0 } else { UNSOUND };
+    let right = if expected.is_some() { 0 } else { UNSOUND_RING };
     if answer != right {
         return Some(format!("turned with {answer}, expected {right}"));
     }
-    let expected = expected.unwrap_or(bytes);
-    let at = (0..LENGTH).find(|&at| after[at] != expected[at])?;
-    let (given, expected) = (after[at], expected[at]);
-    Some(format!("turned with {answer}, {} is {given}, expected {expected}", name_of(at)))
+    let difference = first_difference(&after, expected.unwrap_or(bytes))?;
+    Some(format!("turned with {answer}, and not as expected: {difference}"))
 }
 
 // ---- What was compared.
@@ -167,50 +156,48 @@ impl Sums {
         }
     }
 
-    pub fn print(&self, seed: u64) {
-        let unsound = self.rings - self.sound;
-        println!(
-            "seed {seed}: {} rings compared, {} sound, {unsound} unsound",
-            self.rings, self.sound
-        );
+    /// The figures, and what has to be seen.
+    pub fn shown(&self, seed: u64) -> Shown {
+        let mut figures = format!("seed {seed}: {} rings compared\n", self.rings);
         for (changes, count) in self.changes.iter().enumerate() {
-            println!("with {changes} changes: {count}");
+            line(&mut figures, format_args!("with {changes} changes: {count}"));
         }
-        println!("turned from tenths into hundredths: {}", self.turned);
-        println!("    made    alone    sound tenths: alone  turned  kind of change");
+        line(&mut figures, format_args!("    made    alone    sound tenths: alone  turned  kind of change"));
         for (kind, sum) in KINDS.iter().zip(&self.kinds) {
             let KindSum { made, alone, sound, in_tenths, turned } = sum;
-            println!("{made:8} {alone:8} {sound:8} {in_tenths:13} {turned:7}  {}", kind.name);
+            line(&mut figures, format_args!("{made:8} {alone:8} {sound:8} {in_tenths:13} {turned:7}  {}", kind.name));
         }
+        Shown { figures, sights: self.sights() }
     }
 
-    /// What makes the comparison worth little, though nothing differed. The rings
-    /// that are changed are sound.
-    pub fn faults(&self) -> Vec<String> {
-        let kinds = KINDS.iter().zip(&self.kinds);
-        let never = kinds.filter(|(_, sum)| sum.made == 0);
-        let mut faults: Vec<String> =
-            never.map(|(kind, _)| format!("never made: {}", kind.name)).collect();
-        let always = KINDS.iter().zip(&self.kinds).filter(|(k, _)| ALWAYS_SOUND.contains(&k.name));
-        for (kind, KindSum { alone, sound, in_tenths, turned, .. }) in always {
-            if *alone == 0 || sound < alone {
-                faults.push(format!("{sound} of {alone} are sound after {}", kind.name));
-            }
-            let right = if kind.name == NO_TENTHS { 0 } else { *in_tenths };
-            if *in_tenths == 0 || *turned != right {
-                faults.push(format!("{turned} of {in_tenths} are turned after {}", kind.name));
-            }
-        }
+    /// What makes the comparison worth something. The rings that are changed are sound.
+    pub fn sights(&self) -> Sights {
+        let mut sights = Sights::default();
         for (name, count, share) in [
-            ("sound", self.sound, LEAST_SHARE),
-            ("unsound", self.rings - self.sound, LEAST_SHARE),
-            ("turned", self.turned, LEAST_TURNED_SHARE),
+            ("sound rings", self.sound, LEAST_SHARE),
+            ("unsound rings", self.rings - self.sound, LEAST_SHARE),
+            ("turned from tenths into hundredths", self.turned, LEAST_TURNED_SHARE),
         ] {
-            if count * share < self.rings || count == 0 {
-                faults.push(format!("{count} {name} rings of {} are too few", self.rings));
+            sights.ask(name, count, self.rings.div_ceil(share).max(1));
+        }
+        for (kind, sum) in KINDS.iter().zip(&self.kinds) {
+            sights.ask(format!("made: {}", kind.name), sum.made, 1);
+            if ALWAYS_SOUND.contains(&kind.name) {
+                ask_always_sound(&mut sights, kind.name, sum);
             }
         }
-        faults
+        sights
+    }
+}
+
+/// A kind that leaves every ring sound, and all rings in tenths sound in tenths, or none of them.
+fn ask_always_sound(sights: &mut Sights, kind: &str, sum: &KindSum) {
+    let KindSum { alone, sound, in_tenths, turned, .. } = *sum;
+    sights.ask(format!("sound, all of {alone}: {kind}"), sound, alone.max(1));
+    if kind == NO_TENTHS {
+        sights.ask(format!("not turned, all of {in_tenths}: {kind}"), in_tenths - turned, in_tenths.max(1));
+    } else {
+        sights.ask(format!("turned, all of {in_tenths}: {kind}"), turned, in_tenths.max(1));
     }
 }
 
@@ -244,17 +231,6 @@ fn show_places(text: &mut String, case: &Case) {
     }
 }
 
-/// A place in words: its part, with the node or channel and the cell or byte.
-fn name_of(at: usize) -> String {
-    let part = PARTS.iter().find(|part| at < part.end()).expect("the parts are the ring");
-    let (item, inner) = ((at - part.first) / part.width, (at - part.first) % part.width);
-    match (part.each, part.width) {
-        (Each::Ring, _) => part.name.to_string(),
-        (_, 1) => format!("{} {item}", part.name),
-        _ => format!("{} {item} at {inner}", part.name),
-    }
-}
-
 fn show_counts(text: &mut String, bytes: &Bytes) {
     let deliveries = deliveries(bytes);
     let (n, c) = (bytes[NODE_COUNT], bytes[CHANNEL_COUNT]);
@@ -264,8 +240,7 @@ fn show_counts(text: &mut String, bytes: &Bytes) {
 }
 
 fn show_node(text: &mut String, bytes: &Bytes, at: usize) {
-    let [slots, used, waiting, mark] =
-        [CAPACITY, USED, WAITING, MARKS].map(|part| bytes[part + at]);
+    let [slots, used, waiting, mark] = [CAPACITY, USED, WAITING, MARKS].map(|part| bytes[part + at]);
     let [buffer, queue] = [SLOTS, LINES].map(|part| &bytes[part + at * ROW..][..ROW]);
     if at >= nodes(bytes) && slots | used | waiting | mark == 0 && empty(buffer) && empty(queue) {
         return;
@@ -276,9 +251,8 @@ fn show_node(text: &mut String, bytes: &Bytes, at: usize) {
 }
 
 fn show_channel(text: &mut String, bytes: &Bytes, at: usize) {
-    let [sender, receiver, phase, offered] =
-        [SENDERS, RECEIVERS, PHASES, OFFERED].map(|part| bytes[part + at]);
-    let [offer, carried] = [OFFERS, CARRIED].map(|part| record_bytes(bytes, part, at));
+    let [sender, receiver, phase, offered] = [SENDERS, RECEIVERS, PHASES, OFFERED].map(|part| bytes[part + at]);
+    let [offer, carried] = [OFFERS, CARRIED].map(|part| record_at(bytes, part, at));
     let head = sender | receiver | phase | offered;
     if at >= channels(bytes) && head == 0 && empty(offer) && empty(carried) {
         return;

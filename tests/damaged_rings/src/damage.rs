@@ -1,12 +1,14 @@
 //! Changes to the bytes of a ring, by kind. Some leave it sound.
 
-use crate::layout::{
-    channels, nodes, put_record, put_temperature, record_bytes, temperature_in, Bytes, Part,
-    CAPACITY, CARRIED, CHANNEL_COUNT, DELIVERIES, LENGTH, LINES, MARKS, NODE_COUNT, OFFERED,
-    OFFERS, PARTS, PHASES, RECEIVERS, RECORD, SENDERS, SLOTS, SPARE, STARTED, USED, WAITING,
+use crate::form::put_record;
+use common::layout::{
+    channels, nodes, put_temperature, record_at, temperature_in, Bytes, Part, CAPACITY, CARRIED, CHANNEL_COUNT, DELIVERIES, LENGTH, LINES,
+    MARKS, NODE_COUNT, OFFERED, OFFERS, PARTS, PHASES, RECEIVERS, SENDERS, SLOTS, SPARE, STARTED, USED, WAITING,
 };
-use second_model::generate::{good_record, Random, EDGE_HUNDREDTHS, EDGE_TENTHS};
-use second_model::ring::{Unit, BLANK, CHANNELS, SLOTS as ROW};
+use common::random::Random;
+use second_model::generate::{good_record, EDGE_HUNDREDTHS, EDGE_TENTHS};
+use second_model::ring::{Unit, BLANK};
+use vessel_ring::{CHANNELS, RECORD_BYTES as RECORD, ROW};
 
 /// A kind of change. It answers whether it changed the ring: there may be
 /// nothing of the kind to change, or it may draw what is there already.
@@ -72,6 +74,14 @@ pub fn change_place(bytes: &mut Bytes, random: &mut Random) -> usize {
     }
 }
 
+/// Changes one to three places, or now and then the whole ring; answers the kinds of the changes.
+pub fn change(bytes: &mut Bytes, random: &mut Random) -> Vec<usize> {
+    if random.percent(5) {
+        return vec![change_whole(bytes, random)];
+    }
+    (0..random.between(1, 3)).map(|_| change_place(bytes, random)).collect()
+}
+
 /// Changes the whole ring and answers the kind of the change.
 pub fn change_whole(bytes: &mut Bytes, random: &mut Random) -> usize {
     let drawn = random.below(WHOLE);
@@ -123,11 +133,7 @@ fn every_byte_drawn(bytes: &mut Bytes, random: &mut Random) -> bool {
 fn place(bytes: &Bytes, random: &mut Random) -> usize {
     let part = draw_part(random);
     let in_use = part.in_use(bytes);
-    let item = if in_use > 0 && random.percent(80) {
-        random.below(in_use)
-    } else {
-        random.below(part.items())
-    };
+    let item = if in_use > 0 && random.percent(80) { random.below(in_use) } else { random.below(part.items()) };
     part.first + item * part.width + random.below(part.width)
 }
 
@@ -372,9 +378,7 @@ fn exchanged_in_row(bytes: &mut Bytes, random: &mut Random) -> bool {
 }
 
 fn exchanged_between_rows(bytes: &mut Bytes, random: &mut Random) -> bool {
-    let (Some(row), Some(other)) =
-        (Row::draw_filled(bytes, random), Row::draw_filled(bytes, random))
-    else {
+    let (Some(row), Some(other)) = (Row::draw_filled(bytes, random), Row::draw_filled(bytes, random)) else {
         return false;
     };
     let (at, there) = (row.draw_cell(bytes, random), other.draw_cell(bytes, random));
@@ -384,8 +388,7 @@ fn exchanged_between_rows(bytes: &mut Bytes, random: &mut Random) -> bool {
 
 /// A message a second time on the ring, in the same row or another.
 fn message_doubled(bytes: &mut Bytes, random: &mut Random) -> bool {
-    let (Some(row), Some(other)) = (Row::draw_filled(bytes, random), Row::draw(bytes, random))
-    else {
+    let (Some(row), Some(other)) = (Row::draw_filled(bytes, random), Row::draw(bytes, random)) else {
         return false;
     };
     let at = row.draw_cell(bytes, random);
@@ -394,8 +397,7 @@ fn message_doubled(bytes: &mut Bytes, random: &mut Random) -> bool {
 
 /// A message at the end of another row than its own.
 fn message_moved(bytes: &mut Bytes, random: &mut Random) -> bool {
-    let (Some(row), Some(other)) = (Row::draw_filled(bytes, random), Row::draw(bytes, random))
-    else {
+    let (Some(row), Some(other)) = (Row::draw_filled(bytes, random), Row::draw(bytes, random)) else {
         return false;
     };
     if other.cells == row.cells || other.long(bytes) == ROW {
@@ -432,7 +434,7 @@ fn draw_record(bytes: &Bytes, random: &mut Random) -> Option<(usize, usize)> {
     let first = random.below(2 * CHANNELS);
     let around = (0..2 * CHANNELS).map(|step| (first + step) % (2 * CHANNELS));
     let mut records = around.map(|at| ([OFFERS, CARRIED][at % 2], at / 2));
-    records.find(|&(part, channel)| record_bytes(bytes, part, channel) != &[0; RECORD])
+    records.find(|&(part, channel)| record_at(bytes, part, channel) != &[0; RECORD])
 }
 
 /// A field of a record, also within its limits.
@@ -440,7 +442,7 @@ fn record_field(bytes: &mut Bytes, random: &mut Random) -> bool {
     let Some((part, channel)) = draw_record(bytes, random) else {
         return false;
     };
-    let before = *record_bytes(bytes, part, channel);
+    let before = *record_at(bytes, part, channel);
     let mut record = before;
     change_field(&mut record, random);
     bytes[part + channel * RECORD..][..RECORD].copy_from_slice(&record);
@@ -490,7 +492,7 @@ fn record_put(bytes: &mut Bytes, random: &mut Random) -> bool {
         return false;
     };
     let part = random.pick(&[OFFERS, CARRIED]);
-    put_record(&mut bytes[part + channel * RECORD..][..RECORD], &good_record(random));
+    put_record(bytes, part, channel, &good_record(random));
     if part == OFFERS && random.percent(70) {
         bytes[OFFERED + channel] = 1;
     }
@@ -533,7 +535,7 @@ fn change_temperature(bytes: &mut Bytes, random: &mut Random, temperature: i16) 
     let Some((part, channel)) = draw_record(bytes, random) else {
         return false;
     };
-    let before = temperature_in(record_bytes(bytes, part, channel));
+    let before = temperature_in(record_at(bytes, part, channel));
     put_temperature(&mut bytes[part + channel * RECORD..][..RECORD], temperature);
     temperature != before
 }

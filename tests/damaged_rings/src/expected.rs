@@ -1,7 +1,8 @@
 //! The verdict expected on the bytes of a ring, and what it is turned into.
 
-use crate::layout::{lay_out, read_back, record_bytes, Bytes, OFFERED, OFFERS, RECORD, SPARE};
-use second_model::ring::CHANNELS;
+use crate::form::{lay_out, read_back};
+use common::layout::{record_at, Bytes, OFFERED, OFFERS, SPARE};
+use vessel_ring::{CHANNELS, RECORD_BYTES};
 
 /// The model's verdict on the ring that the bytes hold, where they hold one.
 pub fn sound(bytes: &Bytes) -> bool {
@@ -27,7 +28,7 @@ pub fn turned(bytes: &Bytes) -> Option<Bytes> {
 fn fits_the_model(bytes: &Bytes) -> bool {
     bytes[SPARE] == 0
         && (0..CHANNELS).all(|at| {
-            let holds = record_bytes(bytes, OFFERS, at) != &[0; RECORD];
+            let holds = record_at(bytes, OFFERS, at) != &[0; RECORD_BYTES];
             bytes[OFFERED + at] == holds as u8
         })
 }

@@ -6,7 +6,7 @@
 pub mod compare;
 pub mod damage;
 pub mod expected;
-pub mod layout;
+pub mod form;
 pub mod rings;
 
 #[cfg(test)]

@@ -1,6 +1,7 @@
 //! The rings to be judged: those that the model reaches on its tapes.
 
-use second_model::generate::{Random, Tapes};
+use common::random::Random;
+use second_model::generate::Tapes;
 use second_model::listing::apply;
 use second_model::ring::Ring;
 use second_model::tape::{self, Read};

@@ -4,14 +4,14 @@
 use crate::compare::{compare, Cases, Sums};
 use crate::damage::{ALWAYS_SOUND, KINDS, NO_TENTHS};
 use crate::expected;
-use crate::layout::*;
+use crate::form::{change_temperatures, lay_out, read_back, read_record};
 use crate::rings::Rings;
-use second_model::generate::{fields_named, Random};
-use second_model::ring::{
-    ChannelNumber, NodeNumber, Record, Ring, Unit, ANSWERING, ASKING, CHANNELS, NODES, READY,
-    RESTING,
-};
+use common::layout::*;
+use common::random::Random;
+use second_model::generate::fields_named;
+use second_model::ring::{ChannelNumber, NodeNumber, Record, Ring, Unit, ANSWERING, ASKING, CHANNELS, NODES, READY, RESTING};
 use std::sync::OnceLock;
+use vessel_ring::RECORD_BYTES as RECORD;
 
 const SEED: u64 = 1978;
 const RINGS: u64 = 60_000;
@@ -372,7 +372,7 @@ fn the_model_agrees_with_itself() {
     assert_eq!(sums.rings, RINGS);
     assert_eq!(sums.changes.iter().sum::<u64>(), RINGS);
     assert!(sums.changes.iter().all(|&rings| rings > RINGS * 24 / 100), "{:?}", sums.changes);
-    assert_eq!(sums.faults(), Vec::<String>::new());
+    assert_eq!(sums.sights().missing(), [""; 0]);
 }
 
 #[test]
@@ -389,35 +389,36 @@ fn the_same_seed_draws_the_same_rings() {
 
 #[test]
 fn too_little_compared_is_a_fault() {
-    assert!(!Sums::new().faults().is_empty(), "no ring");
+    let missing = |sums: &Sums| sums.sights().missing();
+    assert!(!missing(&Sums::new()).is_empty(), "no ring");
     let few = compare(10, SEED, model, model_turn).expect("no difference");
-    assert!(!few.faults().is_empty(), "kinds never made");
+    assert!(!missing(&few).is_empty(), "kinds never made");
     let mut sums = stand_in();
     sums.kinds[7].made = 0;
-    assert_eq!(sums.faults(), ["never made: the spare byte"]);
-    let blank_end = KINDS.iter().position(|kind| kind.name == "a blank at an end of a name");
+    assert_eq!(missing(&sums), ["made: the spare byte: 0 times, at least 1"]);
+    let blank_end = KINDS.iter().position(|kind| kind.name == "a blank at an end of a name").unwrap();
     let mut sums = stand_in();
-    sums.kinds[blank_end.unwrap()].sound -= 1;
-    assert_eq!(sums.faults().len(), 1, "a ring that holds a blank end is unsound");
-    (sums.kinds[blank_end.unwrap()].alone, sums.kinds[blank_end.unwrap()].sound) = (0, 0);
-    assert_eq!(sums.faults(), ["0 of 0 are sound after a blank at an end of a name"]);
+    sums.kinds[blank_end].sound -= 1;
+    assert_eq!(missing(&sums).len(), 1, "a ring that holds a blank end is unsound");
+    (sums.kinds[blank_end].alone, sums.kinds[blank_end].sound) = (0, 0);
+    assert_eq!(missing(&sums), ["sound, all of 0: a blank at an end of a name: 0 times, at least 1"]);
     let mut sums = stand_in();
-    sums.kinds[blank_end.unwrap()].turned -= 1;
-    assert_eq!(sums.faults().len(), 1, "a ring that holds a blank end is not turned");
+    sums.kinds[blank_end].turned -= 1;
+    assert_eq!(missing(&sums).len(), 1, "a ring that holds a blank end is not turned");
     let no_tenths = KINDS.iter().position(|kind| kind.name == NO_TENTHS).unwrap();
     let mut sums = stand_in();
     sums.kinds[no_tenths].turned = 1;
-    assert_eq!(sums.faults().len(), 1, "a ring that holds no tenths is turned");
+    assert_eq!(missing(&sums).len(), 1, "a ring that holds no tenths is turned");
     (sums.kinds[no_tenths].in_tenths, sums.kinds[no_tenths].turned) = (0, 0);
-    assert_eq!(sums.faults(), [format!("0 of 0 are turned after {NO_TENTHS}")]);
+    assert_eq!(missing(&sums), [format!("not turned, all of 0: {NO_TENTHS}: 0 times, at least 1")]);
     let sums = Sums { turned: RINGS / 10 - 1, ..stand_in() };
-    assert_eq!(sums.faults().len(), 1, "too few are turned");
+    assert_eq!(missing(&sums).len(), 1, "too few are turned");
     let mut sums = Sums { sound: RINGS / 5 - 1, ..stand_in() };
-    assert_eq!(sums.faults().len(), 1, "too few are sound");
+    assert_eq!(missing(&sums).len(), 1, "too few are sound");
     sums.sound = RINGS - RINGS / 5 + 1;
-    assert_eq!(sums.faults().len(), 1, "too few are unsound");
+    assert_eq!(missing(&sums).len(), 1, "too few are unsound");
     sums.sound = RINGS / 5;
-    assert!(sums.faults().is_empty());
+    assert_eq!(missing(&sums), [""; 0]);
 }
 
 fn assert_found_out(slip: &str, verdict: impl Fn(&Bytes) -> u8) {
@@ -442,18 +443,14 @@ fn wrong_verdicts_are_found_out() {
     assert_found_out("a sound ring is 255", |bytes| model(bytes).wrapping_neg());
     assert_found_out("an unsound ring is 2", |bytes| 2 - model(bytes));
     assert_found_out("the flags of the offers", |bytes| read_back(bytes).sound() as u8);
-    assert_found_out("an offer with a blank end is none", |bytes| {
-        model(bytes) & !holds_blank_end(bytes, OFFERS) as u8
-    });
-    assert_found_out("a record carried with a blank end is none", |bytes| {
-        model(bytes) & !holds_blank_end(bytes, CARRIED) as u8
-    });
+    assert_found_out("an offer with a blank end is none", |bytes| model(bytes) & !holds_blank_end(bytes, OFFERS) as u8);
+    assert_found_out("a record carried with a blank end is none", |bytes| model(bytes) & !holds_blank_end(bytes, CARRIED) as u8);
 }
 
 /// Whether a record among these has a name with a blank at an end.
 fn holds_blank_end(bytes: &Bytes, part: usize) -> bool {
     let blank_ended = |at| {
-        let record = read_record(record_bytes(bytes, part, at));
+        let record = read_record(bytes, part, at);
         let name = record.name.get(..record.length as usize).unwrap_or_default();
         name.first() == Some(&b' ') || name.last() == Some(&b' ')
     };
@@ -487,9 +484,7 @@ fn rings_turned_wrong_are_found_out() {
     assert_turn_found_out("none is turned", |_| 25);
     assert_turn_found_out("all are left as they are", |_| 0);
     assert_turn_found_out("refused with 1", |bytes| model_turn(bytes).min(1));
-    let keep = |first: usize, end: usize| {
-        then(move |before, after| after[first..end].copy_from_slice(&before[first..end]))
-    };
+    let keep = |first: usize, end: usize| then(move |before, after| after[first..end].copy_from_slice(&before[first..end]));
     assert_turn_found_out("the offers forgotten", keep(OFFERS, CARRIED));
     assert_turn_found_out("the records carried forgotten", keep(CARRIED, LENGTH));
     assert_turn_found_out("channel 63 forgotten", keep(LENGTH - RECORD, LENGTH));

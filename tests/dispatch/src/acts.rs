@@ -6,9 +6,11 @@ use crate::compare;
 use crate::rings;
 use crate::singly::{Rounds, Try};
 use crate::tally::{Seen, Tally};
-use calls::draw::{self, good_record, good_record_in_tenths, Random};
-use calls::form::{from_c, record_in, to_c};
+use calls::draw::{self, good_record, good_record_in_tenths};
+use calls::form::{from_c, to_c};
 use calls::model::{self, Call};
+use common::layout::record_in;
+use common::random::Random;
 use second_model::ring::Unit;
 use vessel_ring::{Record, Ring, CHANNELS};
 
@@ -55,15 +57,11 @@ pub struct Run {
     dispatched: usize,
 }
 
-fn record_at(records: &[[u8; 40]; CHANNELS], k: usize) -> Record {
-    to_c(record_in(&records[k]))
-}
-
 /// The record that is matched on a channel: offered while it is asking, or carried.
 fn matched(ring: &Ring, k: usize) -> Option<Record> {
     match (ring.phases[k], ring.offered[k]) {
-        (1, 1) => Some(record_at(&ring.offers, k)),
-        (3, _) => Some(record_at(&ring.carried, k)),
+        (1, 1) => Some(record_in(&ring.offers[k])),
+        (3, _) => Some(record_in(&ring.carried[k])),
         _ => None,
     }
 }
@@ -80,8 +78,8 @@ impl Run {
     pub fn new(ring: Ring) -> Run {
         let mut run = Run { ring, lines: vec![Line::default(); CHANNELS], steps: 0, dispatched: 0 };
         for k in 0..CHANNELS {
-            let carried = (ring.phases[k] == 3).then(|| record_at(&ring.carried, k));
-            let offered = (ring.offered[k] == 1).then(|| record_at(&ring.offers, k));
+            let carried = (ring.phases[k] == 3).then(|| record_in(&ring.carried[k]));
+            let offered = (ring.offered[k] == 1).then(|| record_in(&ring.offers[k]));
             run.lines[k].offered = carried.into_iter().chain(offered).map(|record| Offer { record, sent: None }).collect();
             run.begin_match(k);
         }

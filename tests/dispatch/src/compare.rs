@@ -2,9 +2,9 @@
 
 use crate::singly::{enough, on_ring, Rounds};
 use calls::form::{lay, sound_network, to_c};
+use common::layout::first_difference;
 use damaged_rings::expected;
-use damaged_rings::layout::{lay_out, read_back};
-use second_model::ring as second;
+use damaged_rings::form::{self as second, lay_out, read_back};
 use vessel_ring::{Dispatched, Record, Ring, CHANNELS};
 
 /// What a call gave: its answer and the ring after it.
@@ -105,18 +105,13 @@ fn by_second_model(ring: &Ring, given: u16) -> Outcome {
     let mut model = read_back(&bytes);
     let answer = match model.dispatch(given) {
         Ok(made) => {
-            let deliveries: Vec<(u8, Record)> = made.deliveries.iter().map(|one| (one.channel.0, from_second(&one.record))).collect();
+            let deliveries: Vec<(u8, Record)> = made.deliveries.iter().map(|one| (one.channel.0, second::to_c(&one.record))).collect();
             answered(made.rounds, &deliveries)
         }
         Err(refusal) => refused(refusal as u8),
     };
     lay_out(&model, &mut bytes);
     Outcome { answer, after: Ring::from_bytes(&bytes) }
-}
-
-fn from_second(record: &second::Record) -> Record {
-    let second::Record { number, temperature, vessel, length, name } = *record;
-    Record { batch: number.0, vessel, name_length: length, temperature, name }
 }
 
 fn by_queues(ring: &Ring, given: u16) -> Outcome {
@@ -145,9 +140,6 @@ fn difference(name: &str, given: &Outcome, expected: &Outcome) -> Option<String>
     if answer.records != other.records {
         return Some(format!("by {name}: other records"));
     }
-    if given.after != expected.after {
-        let at = given.after.to_bytes().iter().zip(expected.after.to_bytes()).position(|(a, b)| *a != b);
-        return Some(format!("by {name}: another ring after it, first at byte {at:?}"));
-    }
-    None
+    let difference = first_difference(&given.after.to_bytes(), &expected.after.to_bytes())?;
+    Some(format!("by {name}: another ring after it, first in {difference}"))
 }

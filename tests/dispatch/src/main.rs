@@ -10,9 +10,10 @@ mod rings;
 mod singly;
 mod tally;
 
-use calls::draw::Random;
+use common::layout::LENGTH;
+use common::program::{self, Shown};
+use common::random::Random;
 use singly::{enough, on_ring, Rounds};
-use std::mem::size_of;
 use std::process::ExitCode;
 use tally::{Seen, Tally, GIVENS};
 use vessel_ring::Ring;
@@ -91,7 +92,7 @@ fn aimed(random: &mut Random, tally: &mut Tally) -> Result<(), String> {
     }
     for given in [0, 1, u16::MAX] {
         refused(&Ring::fresh(), given, tally)?;
-        refused(&Ring::from_bytes(&[0xFF; size_of::<Ring>()]), given, tally)?;
+        refused(&Ring::from_bytes(&[0xFF; LENGTH]), given, tally)?;
     }
     Ok(())
 }
@@ -116,34 +117,18 @@ fn drawn(random: &mut Random, tally: &mut Tally) -> Result<(), String> {
     acts::list(random, tally)
 }
 
-fn compare(count: u64, seed: u64, tally: &mut Tally) -> Result<(), String> {
+fn compare(count: u64, seed: u64) -> Result<Shown, String> {
+    let tally = &mut Tally::new();
     aimed(&mut Random::new(seed), tally)?;
     let mut run = 0;
     while tally.calls < count {
-        let mut random = Random::new(seed.wrapping_mul(0x9E37_79B9_7F4A_7C15) ^ run);
+        let mut random = Random::of_run(seed, run);
         drawn(&mut random, tally).map_err(|difference| format!("seed {seed}, run {run}: {difference}"))?;
         run += 1;
     }
-    Ok(())
+    Ok(tally.shown())
 }
 
 fn main() -> ExitCode {
-    let numbers: Vec<Option<u64>> = std::env::args().skip(1).map(|word| word.parse().ok()).collect();
-    let [Some(count), Some(seed)] = numbers[..] else {
-        eprintln!("dispatch COUNT SEED");
-        return ExitCode::from(2);
-    };
-    let mut tally = Tally::new();
-    if let Err(difference) = compare(count, seed, &mut tally) {
-        println!("{difference}");
-        return ExitCode::FAILURE;
-    }
-    tally.print();
-    let missing = tally.missing();
-    if !missing.is_empty() {
-        println!("never: {}", missing.join("; "));
-        return ExitCode::FAILURE;
-    }
-    println!("no difference");
-    ExitCode::SUCCESS
+    program::run("dispatch", compare)
 }

@@ -1,10 +1,12 @@
 //! The rings on which the dispatcher is called.
 
 use crate::tally::Tally;
-use calls::draw::{self, good_record, good_record_in_tenths, Random};
+use calls::draw::{self, good_record, good_record_in_tenths};
 use calls::form::{from_c, lay, to_c};
-use calls::model::Call;
-use damaged_rings::damage::{change_place, change_whole};
+use calls::library;
+use calls::model::{Answer, Call};
+use common::random::Random;
+use damaged_rings::damage;
 use std::collections::{HashSet, VecDeque};
 use vessel_ring::{Record, Ring};
 
@@ -133,24 +135,14 @@ pub fn drawn(random: &mut Random) -> Ring {
     ring
 }
 
-/// A single call, by the library. Its refusal, or 0, with the delivery that a move made. Questions are not asked here.
+/// A single call, by the library. Its refusal, or 0, with the delivery that a move made.
 pub fn make(ring: &mut Ring, call: Call) -> (u8, Option<(u8, Record)>) {
-    let refusal = match call {
-        Call::AddNode(slots) => ring.add_node(slots),
-        Call::AddChannel(sender, receiver) => ring.add_channel(sender, receiver),
-        Call::Start => ring.start(),
-        Call::Receive(channel) => ring.receive(channel),
-        Call::Send(channel, record) => ring.send(channel, to_c(record)),
-        Call::SendTenths(channel, record) => ring.send_tenths(channel, to_c(record)),
-        Call::Enter(node) => ring.enter(node),
-        Call::Withdraw(channel) => ring.withdraw(channel),
-        Call::Move(node) => {
-            let moved = ring.move_on(node);
-            return (moved.refusal, (moved.delivered == 1).then_some((moved.channel, moved.record)));
-        }
-        Call::HopsLeft(_) | Call::WaitingSet(_) => 0,
+    let answer = library::call(ring, call);
+    let delivery = match answer {
+        Answer::Delivered(channel, record) => Some((channel as u8, to_c(record))),
+        _ => None,
     };
-    (refusal, None)
+    (answer.number(), delivery)
 }
 
 /// A sound started ring that no run need reach.
@@ -170,10 +162,6 @@ pub fn turned(random: &mut Random) -> Ring {
 /// The ring with up to three places changed, or the whole of it. It may still be sound.
 pub fn damaged(ring: &Ring, random: &mut Random, tally: &mut Tally) -> Ring {
     let mut bytes = ring.to_bytes();
-    if random.percent(5) {
-        tally.damaged(change_whole(&mut bytes, random));
-    } else {
-        (0..random.between(1, 3)).for_each(|_| tally.damaged(change_place(&mut bytes, random)));
-    }
+    damage::change(&mut bytes, random).into_iter().for_each(|kind| tally.damaged(kind));
     Ring::from_bytes(&bytes)
 }

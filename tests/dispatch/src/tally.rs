@@ -3,8 +3,9 @@
 use crate::compare::Outcome;
 use crate::singly::{enough, on_ring, Kind, Rounds, Try};
 use calls::model::TENTHS;
+use common::program::Shown;
+use common::sights::Sights;
 use damaged_rings::damage::KINDS;
-use std::collections::BTreeMap;
 use vessel_ring::{Record, Ring};
 
 /// How many rounds are given: of a ring that makes so many, at least three, so that all of these differ.
@@ -79,10 +80,7 @@ pub struct Tally {
     pub calls: u64,
     rounds: u64,
     deliveries: u64,
-    sights: BTreeMap<&'static str, u64>,
-    givens: BTreeMap<&'static str, u64>,
-    /// Changes to rings, by kind.
-    damage: [u64; KINDS.len()],
+    sights: Sights,
     /// The greatest part of its bound that a match took until its delivery, in thousandths.
     longest: usize,
 }
@@ -101,22 +99,32 @@ fn has_blank_end(record: &Record) -> bool {
     name.starts_with(b" ") || name.ends_with(b" ")
 }
 
+fn given(name: &str) -> String {
+    format!("given to a ring that makes at least three rounds: {name}")
+}
+
+fn damaged(kind: &str) -> String {
+    format!("damaged: {kind}")
+}
+
 impl Tally {
     pub fn new() -> Tally {
-        let none = |names: &[&'static str]| names.iter().map(|&name| (name, 0)).collect();
-        Tally { calls: 0, rounds: 0, deliveries: 0, sights: none(&SIGHTS), givens: none(&GIVENS), damage: [0; KINDS.len()], longest: 0 }
+        let givens = GIVENS.iter().map(|name| given(name));
+        let damage = KINDS.iter().map(|kind| damaged(kind.name));
+        let sights = Sights::of(SIGHTS.map(String::from).into_iter().chain(givens).chain(damage));
+        Tally { calls: 0, rounds: 0, deliveries: 0, sights, longest: 0 }
     }
 
-    pub fn see(&mut self, holds: bool, name: &'static str) {
-        *self.sights.get_mut(name).expect("a name of the list") += u64::from(holds);
+    pub fn see(&mut self, holds: bool, name: &str) {
+        self.sights.see(holds, name);
     }
 
-    pub fn given(&mut self, name: &'static str) {
-        *self.givens.get_mut(name).expect("a name of the list") += 1;
+    pub fn given(&mut self, name: &str) {
+        self.see(true, &given(name));
     }
 
     pub fn damaged(&mut self, kind: usize) {
-        self.damage[kind] += 1;
+        self.see(true, &damaged(KINDS[kind].name));
     }
 
     pub fn counted(&mut self, counted: usize, bound: usize) {
@@ -221,22 +229,10 @@ impl Tally {
         }
     }
 
-    pub fn print(&self) {
+    pub fn shown(&self) -> Shown {
         let Tally { calls, rounds, deliveries, longest, .. } = self;
-        println!("{calls} calls, {rounds} rounds, {deliveries} deliveries; a match took at most {longest} thousandths of its bound");
-        let givens: Vec<String> = self.givens.iter().map(|(name, times)| format!("{name}: {times}")).collect();
-        println!("rounds given, of at least three: {}", givens.join(", "));
-        self.sights.iter().for_each(|(name, times)| println!("{times:8} {name}"));
-        println!("rings damaged:");
-        KINDS.iter().zip(&self.damage).for_each(|(kind, times)| println!("{times:8} {}", kind.name));
-    }
-
-    /// What has to be seen and never was.
-    pub fn missing(&self) -> Vec<String> {
-        let never = |times: &u64| *times == 0;
-        let sights = self.sights.iter().filter(|(_, times)| never(times)).map(|(name, _)| name.to_string());
-        let givens = self.givens.iter().filter(|(_, times)| never(times)).map(|(name, _)| format!("given: {name}"));
-        let damage = KINDS.iter().zip(&self.damage).filter(|(_, times)| never(times)).map(|(kind, _)| format!("damaged: {}", kind.name));
-        sights.chain(givens).chain(damage).collect()
+        let figures =
+            format!("{calls} calls, {rounds} rounds, {deliveries} deliveries; a match took at most {longest} thousandths of its bound");
+        Shown { figures, sights: self.sights.clone() }
     }
 }

@@ -1,6 +1,6 @@
 //! Damage: one change to a sound table, after which it is not sound.
 
-use second_model::generate::Random;
+use common::random::Random;
 use vessel_ring::{Row, READINGS};
 
 /// A kind of damage, done at a row of the table.

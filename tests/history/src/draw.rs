@@ -1,6 +1,6 @@
 //! What is drawn: scripts of calls, with the batches that they are about, and sound tables made by hand.
 
-pub use second_model::generate::Random;
+use common::random::Random;
 use second_model::generate::{bad_record, good_record};
 use second_model::ring::{BatchNumber, Record};
 use vessel_ring::{Row, HISTORY_ROWS, READINGS};

@@ -11,9 +11,11 @@ mod lists;
 mod tally;
 mod turns;
 
+use common::program::{self, Shown};
+use common::random::Random;
 use compare::Pair;
 use damage::KINDS;
-use draw::{Call, Random, Script};
+use draw::{Call, Script};
 use second_model::generate::good_record;
 use std::process::ExitCode;
 use tally::{Tally, LENGTHS};
@@ -148,7 +150,8 @@ fn every_byte(random: &mut Random, tally: &mut Tally) -> Result<(), String> {
     Ok(())
 }
 
-fn compare(count: u64, seed: u64, tally: &mut Tally) -> Result<(), String> {
+fn compare(count: u64, seed: u64) -> Result<Shown, String> {
+    let tally = &mut Tally::new();
     let random = &mut Random::new(seed);
     every_byte(random, tally)?;
     every_pair(random, tally)?;
@@ -157,30 +160,13 @@ fn compare(count: u64, seed: u64, tally: &mut Tally) -> Result<(), String> {
     turns::every_cell(tally)?;
     let mut run = 0;
     while tally.calls < count {
-        let mut random = Random::new(seed.wrapping_mul(0x9E37_79B9_7F4A_7C15) ^ run);
+        let mut random = Random::of_run(seed, run);
         scripted(&mut random, tally).map_err(|difference| format!("seed {seed}, script {run}: {difference}"))?;
         run += 1;
     }
-    Ok(())
+    Ok(tally.shown())
 }
 
 fn main() -> ExitCode {
-    let numbers: Vec<Option<u64>> = std::env::args().skip(1).map(|word| word.parse().ok()).collect();
-    let [Some(count), Some(seed)] = numbers[..] else {
-        eprintln!("history COUNT SEED");
-        return ExitCode::from(2);
-    };
-    let mut tally = Tally::new();
-    if let Err(difference) = compare(count, seed, &mut tally) {
-        println!("{difference}");
-        return ExitCode::FAILURE;
-    }
-    tally.print();
-    let missing = tally.missing();
-    if !missing.is_empty() {
-        println!("never: {}", missing.join("; "));
-        return ExitCode::FAILURE;
-    }
-    println!("no difference");
-    ExitCode::SUCCESS
+    program::run("history", compare)
 }

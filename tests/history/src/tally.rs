@@ -4,10 +4,10 @@ use crate::compare::to_model;
 use crate::damage::KINDS;
 use crate::draw::Call;
 use crate::lists::Lists;
+use common::program::Shown;
+use common::sights::Sights;
 use second_model::history::History;
 use second_model::ring::{Record, Unit};
-use std::collections::BTreeMap;
-use std::fmt::Display;
 use vessel_ring::{Row, HISTORY_ROWS, READINGS};
 
 /// What accepted calls have to show, and those that turn a table or refuse to.
@@ -68,6 +68,8 @@ const BAD_RECORD: [u8; 4] = [11, 12, 13, 14];
 /// The refusals that 25 comes before.
 const BEHIND_25: [u8; 5] = [11, 12, 13, 14, 29];
 const LAST: usize = HISTORY_ROWS - 1;
+/// The rows at which a table is damaged.
+const PLACES: [&str; 3] = ["first row", "a row between", "last row"];
 
 /// Lengths of tables that are not 128.
 pub const LENGTHS: [usize; 5] = [0, 1, 127, 129, 300];
@@ -85,72 +87,73 @@ pub struct Seen<'a> {
 
 pub struct Tally {
     pub calls: u64,
-    /// Refusals by number.
-    refused: BTreeMap<u8, u64>,
-    /// Refusals of a bad record by number, where 29 would have applied too.
-    full: BTreeMap<u8, u64>,
-    /// Refusals 25 by the number that would have come next.
-    behind: BTreeMap<u8, u64>,
-    /// Refusals of tables of another length, by their length.
-    lengths: BTreeMap<usize, u64>,
-    sights: BTreeMap<&'static str, u64>,
-    /// Damage by kind, at the first row, at one between and at the last.
-    damage: [[u64; 3]; KINDS.len()],
-    /// The same of tables that were to be turned.
-    turn_damage: [[u64; 3]; KINDS.len()],
+    sights: Sights,
 }
 
-fn none<T: Copy + Ord, const N: usize>(names: [T; N]) -> BTreeMap<T, u64> {
-    names.into_iter().map(|name| (name, 0)).collect()
+/// Refused with this number.
+fn refused(number: u8) -> String {
+    format!("refusal {number}")
 }
 
-/// Counts a name that is among those that have to be seen.
-fn count<T: Ord>(counts: &mut BTreeMap<T, u64>, name: T) {
-    *counts.get_mut(&name).expect("a name of the list") += 1;
+/// Refused with this number, of a bad record, where 29 would have applied too.
+fn on_full(number: u8) -> String {
+    format!("refusal {number} where 29 applies too")
+}
+
+/// Refused with 25 where this number would have come next.
+fn behind_25(number: u8) -> String {
+    format!("refusal 25 where {number} applies too")
+}
+
+fn lent(rows: usize) -> String {
+    format!("refused: {rows} rows lent")
+}
+
+/// Damage of a kind at the first row, at one between or at the last.
+fn damaged(kind: &str, place: &str) -> String {
+    format!("damaged, {place}: {kind}")
+}
+
+/// The same of a table that was to be turned.
+fn turn_damaged(kind: &str, place: &str) -> String {
+    format!("to be turned, damaged, {place}: {kind}")
 }
 
 impl Tally {
     pub fn new() -> Tally {
-        Tally {
-            calls: 0,
-            refused: none(REFUSALS),
-            full: none(BAD_RECORD),
-            behind: none(BEHIND_25),
-            lengths: none(LENGTHS),
-            sights: none(SIGHTS),
-            damage: [[0; 3]; KINDS.len()],
-            turn_damage: [[0; 3]; KINDS.len()],
-        }
+        let refusals = REFUSALS.map(refused).into_iter().chain(BAD_RECORD.map(on_full)).chain(BEHIND_25.map(behind_25));
+        let lengths = LENGTHS.map(lent);
+        let damage = |name: fn(&str, &str) -> String| KINDS.iter().flat_map(move |kind| PLACES.map(|place| name(kind.name, place)));
+        let names = refusals.chain(lengths).chain(SIGHTS.map(String::from)).chain(damage(damaged)).chain(damage(turn_damaged));
+        Tally { calls: 0, sights: Sights::of(names) }
     }
 
     pub fn refused(&mut self, number: u8) {
-        count(&mut self.refused, number);
+        self.see(true, &refused(number));
     }
 
     pub fn refused_on_full(&mut self, number: u8) {
-        count(&mut self.full, number);
+        self.see(true, &on_full(number));
     }
 
     pub fn refused_before(&mut self, number: u8) {
-        count(&mut self.behind, number);
+        self.see(true, &behind_25(number));
     }
 
     pub fn lent(&mut self, rows: usize) {
-        count(&mut self.lengths, rows);
+        self.see(true, &lent(rows));
     }
 
     pub fn damaged(&mut self, kind: usize, row: usize) {
-        self.damage[kind][place(row)] += 1;
+        self.see(true, &damaged(KINDS[kind].name, place(row)));
     }
 
     pub fn turn_damaged(&mut self, kind: usize, row: usize) {
-        self.turn_damage[kind][place(row)] += 1;
+        self.see(true, &turn_damaged(KINDS[kind].name, place(row)));
     }
 
-    pub fn see(&mut self, holds: bool, name: &'static str) {
-        if holds {
-            count(&mut self.sights, name);
-        }
+    pub fn see(&mut self, holds: bool, name: &str) {
+        self.sights.see(holds, name);
     }
 
     pub fn accepted(&mut self, seen: &Seen) {
@@ -264,46 +267,17 @@ impl Tally {
         see(!in_row && to_nothing, "turn refused: for a cell without a reading that, ten times and cut to 16 bits, is 0");
     }
 
-    pub fn print(&self) {
-        println!("{} calls", self.calls);
-        println!("refused: {}", listed(&self.refused));
-        println!("refused for a bad record where 29 applies too: {}", listed(&self.full));
-        println!("refused with 25 before: {}", listed(&self.behind));
-        println!("refused for the number of rows: {}", listed(&self.lengths));
-        for (name, times) in &self.sights {
-            println!("{times:8} {name}");
-        }
-        for (what, damage) in [("damage", &self.damage), ("of tables to be turned", &self.turn_damage)] {
-            println!("{what} at the first row, between, at the last:");
-            for (kind, [first, between, last]) in KINDS.iter().zip(damage) {
-                println!("{first:8} {between:8} {last:8} {}", kind.name);
-            }
-        }
-    }
-
-    /// What has to be seen and never was.
-    pub fn missing(&self) -> Vec<String> {
-        let mut missing = never("refusal ", &self.refused);
-        missing.extend(never("29 behind ", &self.full));
-        missing.extend(never("25 before ", &self.behind));
-        missing.extend(never("rows lent: ", &self.lengths));
-        missing.extend(never("", &self.sights));
-        for (what, damage) in [("", &self.damage), ("to be turned, ", &self.turn_damage)] {
-            for (kind, places) in KINDS.iter().zip(damage) {
-                let named = ["first row", "a row between", "last row"].into_iter().zip(places);
-                missing.extend(named.filter(|(_, times)| **times == 0).map(|(place, _)| format!("{what}{}: {place}", kind.name)));
-            }
-        }
-        missing
+    pub fn shown(&self) -> Shown {
+        Shown { figures: format!("{} calls", self.calls), sights: self.sights.clone() }
     }
 }
 
-/// The place of a row in a count: the first, one between or the last.
-fn place(row: usize) -> usize {
+/// The place of a row: the first, one between or the last.
+fn place(row: usize) -> &'static str {
     match row {
-        0 => 0,
-        LAST => 2,
-        _ => 1,
+        0 => PLACES[0],
+        LAST => PLACES[2],
+        _ => PLACES[1],
     }
 }
 
@@ -318,14 +292,4 @@ fn row_of(table: &[Row], batch: u32) -> Option<usize> {
 
 fn between(at: usize) -> bool {
     (1..LAST).contains(&at)
-}
-
-fn listed<T: Display>(counts: &BTreeMap<T, u64>) -> String {
-    let words: Vec<String> = counts.iter().map(|(name, times)| format!("{name}:{times}")).collect();
-    words.join(" ")
-}
-
-fn never<T: Display>(what: &str, counts: &BTreeMap<T, u64>) -> Vec<String> {
-    let never = counts.iter().filter(|(_, times)| **times == 0);
-    never.map(|(name, _)| format!("{what}{name}")).collect()
 }

@@ -3,9 +3,10 @@
 
 use crate::compare::{from_model, shown, to_model, STRANGE};
 use crate::damage::{self, KINDS};
-use crate::draw::{Random, Script};
+use crate::draw::Script;
 use crate::full_table;
 use crate::tally::{Tally, LENGTHS};
+use common::random::Random;
 use second_model::history::History;
 use second_model::ring::Unit;
 use vessel_ring::{figures, note, to_hundredths, Record, Row, HISTORY_ROWS, READINGS, UNSOUND_RING};

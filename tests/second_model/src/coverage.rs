@@ -3,11 +3,9 @@
 //! what it did.
 
 use crate::listing::{apply, TAPE_LIMIT};
-use crate::ring::{
-    Channel, ChannelNumber, Delivery, Fields, NodeNumber, Refusal, Ring, Unit, ANSWERING, ASKING,
-    BLANK, CHANNELS, SLOTS,
-};
+use crate::ring::{Channel, ChannelNumber, Delivery, Fields, NodeNumber, Refusal, Ring, Unit, ANSWERING, ASKING, BLANK, CHANNELS, SLOTS};
 use crate::tape::{self, Command, Read};
+use common::sights::Sights;
 use std::collections::VecDeque;
 
 #[derive(Clone, Copy, PartialEq, Eq, Debug, Default)]
@@ -72,13 +70,7 @@ fn follow(tape: &[u8], mut make: impl FnMut(&mut Ring, &Command)) {
 
 /// What a tape shows of withdrawals.
 pub fn withdrawals(tape: &[u8]) -> Withdrawals {
-    let mut watch = Watch {
-        seen: Withdrawals::default(),
-        commands: 0,
-        matches: [None; CHANNELS],
-        received: [0; CHANNELS],
-        blocked: None,
-    };
+    let mut watch = Watch { seen: Withdrawals::default(), commands: 0, matches: [None; CHANNELS], received: [0; CHANNELS], blocked: None };
     follow(tape, |ring, command| {
         let waiting = marked_line(ring, command);
         let answer = apply(ring, command);
@@ -147,8 +139,7 @@ impl Watch {
         let channel = &ring.channels[number.0 as usize];
         let asking = channel.phase == ASKING && !channel.offer.is_none();
         if asking || channel.phase == ANSWERING {
-            self.matches[number.0 as usize]
-                .get_or_insert(Match { since: self.commands, undone: 0 });
+            self.matches[number.0 as usize].get_or_insert(Match { since: self.commands, undone: 0 });
         }
     }
 
@@ -176,53 +167,39 @@ pub const NAME_SIGHTS: [&str; 10] = [
     "0 for a name with a blank inside only",
 ];
 
-/// How often sends showed each of `NAME_SIGHTS`.
-#[derive(Clone, Copy, PartialEq, Eq, Debug, Default)]
-pub struct Names(pub [u32; NAME_SIGHTS.len()]);
-
-impl Names {
-    /// What several tapes show.
-    pub fn add(&mut self, other: &Names) {
-        self.0.iter_mut().zip(other.0).for_each(|(sum, count)| *sum += count);
-    }
-
-    /// A send's name, by its length and cells, whether a record was offered before,
-    /// and the refusal or 0. A length over 32 is 13 and says nothing of ends.
-    pub fn look(&mut self, length: u8, cells: &[u8; 32], offered: bool, answer: u8) {
-        let Some(name) = cells.get(..length as usize) else {
-            return;
-        };
-        let (first, last) = (name.starts_with(&[BLANK]), name.ends_with(&[BLANK]));
-        let holds = [
-            answer == 30 && first && !last,
-            answer == 30 && last && !first,
-            answer == 30 && first && last && name.len() > 1,
-            answer == 30 && name.len() == 1,
-            answer == 30 && name.len() == 32,
-            answer == 30 && offered,
-            answer == 14 && (first || last),
-            answer == 0 && name.is_empty(),
-            answer == 0 && name.len() == 32,
-            answer == 0 && !first && !last && name.contains(&BLANK),
-        ];
-        self.0.iter_mut().zip(holds).for_each(|(count, holds)| *count += holds as u32);
-    }
+/// A send's name, by its length and cells, whether a record was offered before,
+/// and the refusal or 0: counts each of `NAME_SIGHTS` that it shows. A length over 32
+/// is 13 and says nothing of ends.
+pub fn look_at_name(sights: &mut Sights, length: u8, cells: &[u8; 32], offered: bool, answer: u8) {
+    let Some(name) = cells.get(..length as usize) else {
+        return;
+    };
+    let (first, last) = (name.starts_with(&[BLANK]), name.ends_with(&[BLANK]));
+    let mut see = |number: u8, holds: bool, name: &str| sights.see(answer == number && holds, name);
+    see(30, first && !last, "30 for a blank first, not last");
+    see(30, last && !first, "30 for a blank last, not first");
+    see(30, first && last && name.len() > 1, "30 for a blank first and last, in a longer name");
+    see(30, name.len() == 1, "30 for a name of one blank");
+    see(30, name.len() == 32, "30 for a name of 32 characters");
+    see(30, offered, "30 with a record offered, where 15 applies too");
+    see(14, first || last, "14 for a name with a blank end, where 30 applies too");
+    see(0, name.is_empty(), "0 for an empty name");
+    see(0, name.len() == 32, "0 for a name of 32 characters");
+    see(0, !first && !last && name.contains(&BLANK), "0 for a name with a blank inside only");
 }
 
 /// What a tape shows of the ends of names.
-pub fn names(tape: &[u8]) -> Names {
-    let mut seen = Names::default();
+pub fn names(tape: &[u8]) -> Sights {
+    let mut seen = Sights::of(NAME_SIGHTS);
     follow(tape, |ring, command| {
-        let offered = |number: &ChannelNumber| {
-            ring.channels.get(number.0 as usize).is_some_and(|channel| !channel.offer.is_none())
-        };
+        let offered = |number: &ChannelNumber| ring.channels.get(number.0 as usize).is_some_and(|channel| !channel.offer.is_none());
         let send = match command {
             Command::Send(number, fields) => Some((fields, offered(number))),
             _ => None,
         };
         let answer = number_of(&apply(ring, command));
         if let Some((fields, offered)) = send {
-            seen.look(fields.length, &fields.name, offered, answer);
+            look_at_name(&mut seen, fields.length, &fields.name, offered, answer);
         }
     });
     seen
@@ -264,17 +241,23 @@ pub const TEMPERATURE_SIGHTS: [&str; 24] = [
 
 /// How often sends showed each of `TEMPERATURE_SIGHTS`, how many were accepted, and
 /// how often records sent in both units were delivered on one tape.
-#[derive(Clone, Copy, PartialEq, Eq, Debug, Default)]
+#[derive(Clone, PartialEq, Eq, Debug)]
 pub struct Temperatures {
-    pub sights: [u32; TEMPERATURE_SIGHTS.len()],
+    pub sights: Sights,
     pub accepted: [u32; Unit::ALL.len()],
     pub both_delivered: u32,
+}
+
+impl Default for Temperatures {
+    fn default() -> Temperatures {
+        Temperatures { sights: Sights::of(TEMPERATURE_SIGHTS), accepted: [0; Unit::ALL.len()], both_delivered: 0 }
+    }
 }
 
 impl Temperatures {
     /// What several tapes show.
     pub fn add(&mut self, other: &Temperatures) {
-        self.sights.iter_mut().zip(other.sights).for_each(|(sum, count)| *sum += count);
+        self.sights.add(&other.sights);
         self.accepted.iter_mut().zip(other.accepted).for_each(|(sum, count)| *sum += count);
         self.both_delivered += other.both_delivered;
     }
@@ -284,35 +267,39 @@ impl Temperatures {
         let value = fields.temperature;
         let out = !fields.unit.range().contains(&value);
         let long = fields.length > 32;
-        let sees = |number, holds: bool| answer == number && holds;
-        let order = [sees(8, out), sees(9, out), sees(11, out), sees(12, long)];
         let good = Unit::Hundredths.range();
-        let tenths = [
-            sees(0, value == 1200),
-            sees(0, value == -400),
-            sees(12, value == 1201),
-            sees(12, value == -401),
-            sees(12, value == 3276),
-            sees(12, value == 3277),
-            sees(12, value == -3277),
-            sees(12, good.contains(&value.wrapping_mul(10))),
-            sees(12, good.contains(&value)),
-        ];
-        let hundredths = [
-            sees(0, value == 12000),
-            sees(0, value == -4000),
-            sees(12, value == 12001),
-            sees(12, value == -4001),
-            sees(0, value == 1201),
-            sees(0, value == -401),
-            sees(0, value % 10 != 0),
-        ];
-        let (first, shown) = match fields.unit {
-            Unit::Tenths => (0, [&tenths[..], &order].concat()),
-            Unit::Hundredths => (tenths.len() + order.len(), [&hundredths[..], &order].concat()),
-        };
-        let sights = &mut self.sights[first..];
-        sights.iter_mut().zip(shown).for_each(|(count, shown)| *count += shown as u32);
+        let mut see = |number: u8, holds: bool, name: &str| self.sights.see(answer == number && holds, name);
+        match fields.unit {
+            Unit::Tenths => {
+                see(0, value == 1200, "21: 0 for 1200");
+                see(0, value == -400, "21: 0 for -400");
+                see(12, value == 1201, "21: 12 for 1201");
+                see(12, value == -401, "21: 12 for -401");
+                see(12, value == 3276, "21: 12 for 3276, ten times as many just fit 16 bits");
+                see(12, value == 3277, "21: 12 for 3277, ten times as many do not");
+                see(12, value == -3277, "21: 12 for -3277, ten times as many do not");
+                let wraps = good.contains(&value.wrapping_mul(10));
+                see(12, wraps, "21: 12 where ten times as many, cut to 16 bits, are in range");
+                see(12, good.contains(&value), "21: 12 for a temperature that is good in hundredths");
+                see(8, out, "21: 8 where 12 applies too");
+                see(9, out, "21: 9 where 12 applies too");
+                see(11, out, "21: 11 where 12 applies too");
+                see(12, long, "21: 12 where 13 applies too");
+            }
+            Unit::Hundredths => {
+                see(0, value == 12000, "25: 0 for 12000");
+                see(0, value == -4000, "25: 0 for -4000");
+                see(12, value == 12001, "25: 12 for 12001");
+                see(12, value == -4001, "25: 12 for -4001");
+                see(0, value == 1201, "25: 0 for 1201, out of range in tenths");
+                see(0, value == -401, "25: 0 for -401, out of range in tenths");
+                see(0, value % 10 != 0, "25: 0 for hundredths that are no whole tenths");
+                see(8, out, "25: 8 where 12 applies too");
+                see(9, out, "25: 9 where 12 applies too");
+                see(11, out, "25: 11 where 12 applies too");
+                see(12, long, "25: 12 where 13 applies too");
+            }
+        }
         self.accepted[fields.unit as usize] += (answer == 0) as u32;
     }
 }

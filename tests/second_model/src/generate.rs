@@ -4,51 +4,9 @@
 //! that most calls are accepted and records arrive.
 
 use crate::listing::{apply, TAPE_LIMIT};
-use crate::ring::{
-    BatchNumber, ChannelNumber, Fields, NodeNumber, Record, Ring, Unit, ASKING, BLANK, CHANNELS,
-    NODES, RESTING, SLOTS,
-};
+use crate::ring::{BatchNumber, ChannelNumber, Fields, NodeNumber, Record, Ring, Unit, ASKING, BLANK, CHANNELS, NODES, RESTING, SLOTS};
 use crate::tape::{self, Command, SEND_WIDTH};
-
-/// Splitmix64: small, and every seed is a good one.
-#[derive(Clone)]
-pub struct Random(u64);
-
-impl Random {
-    pub fn new(seed: u64) -> Random {
-        Random(seed)
-    }
-
-    pub fn draw(&mut self) -> u64 {
-        self.0 = self.0.wrapping_add(0x9E37_79B9_7F4A_7C15);
-        let mut z = self.0;
-        z = (z ^ (z >> 30)).wrapping_mul(0xBF58_476D_1CE4_E5B9);
-        z = (z ^ (z >> 27)).wrapping_mul(0x94D0_49BB_1331_11EB);
-        z ^ (z >> 31)
-    }
-
-    /// A number from 0 to `end` - 1.
-    pub fn below(&mut self, end: usize) -> usize {
-        (self.draw() % end as u64) as usize
-    }
-
-    /// A number from `first` to `last`, both among them.
-    pub fn between(&mut self, first: usize, last: usize) -> usize {
-        first + self.below(last - first + 1)
-    }
-
-    pub fn percent(&mut self, chance: usize) -> bool {
-        self.below(100) < chance
-    }
-
-    pub fn byte(&mut self) -> u8 {
-        self.draw() as u8
-    }
-
-    pub fn pick<T: Copy>(&mut self, from: &[T]) -> T {
-        from[self.below(from.len())]
-    }
-}
+use common::random::Random;
 
 /// The tapes of one seed.
 pub struct Tapes {
@@ -149,13 +107,7 @@ fn withdraw(channel: u8) -> Command {
 
 /// A good record with this name (at most 32 bytes).
 pub fn record_named(name: &[u8]) -> Record {
-    let mut record = Record {
-        number: BatchNumber(7),
-        vessel: 3,
-        temperature: 6120,
-        length: name.len() as u8,
-        name: [0; 32],
-    };
+    let mut record = Record { number: BatchNumber(7), vessel: 3, temperature: 6120, length: name.len() as u8, name: [0; 32] };
     record.name[..name.len()].copy_from_slice(name);
     record
 }
@@ -169,15 +121,13 @@ pub fn fields_named(name: &[u8]) -> Fields {
 /// as many (3276 and 3277), and of what would be in range again with 16 bits kept
 /// (from 6154 to 7753, say). Some are good in hundredths.
 pub const EDGE_TENTHS: [i16; 24] = [
-    -32768, -6554, -4000, -3277, -3276, -401, -400, -399, -1, 0, 1, 255, 256, 1199, 1200, 1201,
-    3276, 3277, 3278, 6120, 6553, 6554, 12000, 32767,
+    -32768, -6554, -4000, -3277, -3276, -401, -400, -399, -1, 0, 1, 255, 256, 1199, 1200, 1201, 3276, 3277, 3278, 6120, 6553, 6554, 12000,
+    32767,
 ];
 
 /// Hundredths likewise; some are out of range in tenths.
-pub const EDGE_HUNDREDTHS: [i16; 20] = [
-    -32768, -4010, -4001, -4000, -3999, -401, -400, -1, 0, 1, 255, 256, 612, 1200, 1201, 11999,
-    12000, 12001, 12010, 32767,
-];
+pub const EDGE_HUNDREDTHS: [i16; 20] =
+    [-32768, -4010, -4001, -4000, -3999, -401, -400, -1, 0, 1, 255, 256, 612, 1200, 1201, 11999, 12000, 12001, 12010, 32767];
 
 fn edge_temperatures(unit: Unit) -> &'static [i16] {
     match unit {
@@ -348,32 +298,13 @@ struct Habits {
     wild: usize,
 }
 
-const STEADY: Habits = Habits {
-    receive: 10,
-    send: 10,
-    enter: 20,
-    movement: 60,
-    withdraw: 3,
-    hundredths: 50,
-    blind: 3,
-    wild: 1,
-};
+const STEADY: Habits = Habits { receive: 10, send: 10, enter: 20, movement: 60, withdraw: 3, hundredths: 50, blind: 3, wild: 1 };
 /// Draws the benchmark's tapes too: without withdrawals and hundredths they stay what
 /// they are.
 const LEGAL: Habits = Habits { withdraw: 0, hundredths: 0, blind: 0, wild: 0, ..STEADY };
 /// Fills lines and buffers, then goes on blindly: full buffers and turn marks.
-const CROWDED: Habits =
-    Habits { receive: 25, send: 8, enter: 30, movement: 37, withdraw: 6, blind: 30, ..STEADY };
-const UNRULY: Habits = Habits {
-    receive: 15,
-    send: 15,
-    enter: 25,
-    movement: 45,
-    withdraw: 8,
-    blind: 30,
-    wild: 20,
-    ..STEADY
-};
+const CROWDED: Habits = Habits { receive: 25, send: 8, enter: 30, movement: 37, withdraw: 6, blind: 30, ..STEADY };
+const UNRULY: Habits = Habits { receive: 15, send: 15, enter: 25, movement: 45, withdraw: 8, blind: 30, wild: 20, ..STEADY };
 
 fn draw_habits(random: &mut Random) -> Habits {
     Habits {
@@ -391,11 +322,7 @@ fn draw_habits(random: &mut Random) -> Habits {
 /// Adds commands until the tape has no room for one more send.
 fn run(writer: &mut Writer, random: &mut Random, habits: Habits, limit: usize) {
     while writer.room_for(SEND_WIDTH, limit) {
-        let command = if random.percent(habits.wild) {
-            wild_command(random)
-        } else {
-            next_command(&writer.ring, random, habits)
-        };
+        let command = if random.percent(habits.wild) { wild_command(random) } else { next_command(&writer.ring, random, habits) };
         writer.add(command);
     }
 }
@@ -452,17 +379,13 @@ fn weighted(random: &mut Random, weights: &[usize]) -> usize {
 fn accepted_command(ring: &Ring, random: &mut Random, kind: usize, unit: Unit) -> Option<Command> {
     let mut node = || around(random, ring.node_count);
     match kind {
-        0 => around(random, ring.channel_count)
-            .find(|&at| ring.channels[at as usize].phase == RESTING)
-            .map(receive),
+        0 => around(random, ring.channel_count).find(|&at| ring.channels[at as usize].phase == RESTING).map(receive),
         1 => around(random, ring.channel_count)
             .find(|&at| ring.channels[at as usize].offer.is_none())
             .map(|at| send(at, fields_to_send(random, unit))),
         2 => node().find(|&at| enter_looks_good(ring, at)).map(enter),
         3 => node().find(|&at| move_looks_good(ring, at)).map(move_at),
-        _ => around(random, ring.channel_count)
-            .find(|&at| withdraw_looks_good(ring, at))
-            .map(withdraw),
+        _ => around(random, ring.channel_count).find(|&at| withdraw_looks_good(ring, at)).map(withdraw),
     }
 }
 
@@ -593,14 +516,7 @@ fn run_tape(random: &mut Random, habits: Habits, most_spare: usize) -> Vec<u8> {
     started_run(random, nodes, channels, spare, habits, limit)
 }
 
-fn started_run(
-    random: &mut Random,
-    nodes: usize,
-    channels: usize,
-    spare: usize,
-    habits: Habits,
-    limit: usize,
-) -> Vec<u8> {
+fn started_run(random: &mut Random, nodes: usize, channels: usize, spare: usize, habits: Habits, limit: usize) -> Vec<u8> {
     let mut writer = Writer::new();
     writer.add_all(&Plan::draw(random, nodes, channels, spare).commands());
     run(&mut writer, random, habits, limit);
@@ -648,8 +564,7 @@ fn overfull_tape(random: &mut Random) -> Vec<u8> {
     let mut writer = Writer::new();
     let nodes = random.between(12, 20);
     for _ in 0..nodes {
-        let slots =
-            if random.percent(10) { edge_number(random) } else { random.between(1, 9) as u8 };
+        let slots = if random.percent(10) { edge_number(random) } else { random.between(1, 9) as u8 };
         writer.add(add_node(slots));
         if random.percent(30) {
             writer.add(add_channel(random.below(nodes) as u8, random.below(nodes) as u8));

@@ -29,13 +29,7 @@ pub struct Totals {
 
 /// Runs a tape from a fresh ring and puts its listing behind what `out` holds.
 pub fn run(tape: &[u8], out: &mut Vec<u8>) -> Totals {
-    let mut totals = Totals {
-        too_long: false,
-        accepted: 0,
-        refused: 0,
-        delivered: 0,
-        refusals: [0; REFUSAL_NUMBERS],
-    };
+    let mut totals = Totals { too_long: false, accepted: 0, refused: 0, delivered: 0, refusals: [0; REFUSAL_NUMBERS] };
     if tape.len() > TAPE_LIMIT {
         totals.too_long = true;
         out.extend_from_slice(TOO_LONG);
@@ -84,12 +78,7 @@ pub fn apply(ring: &mut Ring, command: &Command) -> Result<Option<Delivery>, Ref
 
 /// "a line ... for each command: its number from 1, the command byte in two
 /// small hexadecimal digits, the refusal or 0"
-fn print_command(
-    out: &mut Vec<u8>,
-    totals: &mut Totals,
-    byte: u8,
-    answer: &Result<Option<Delivery>, Refusal>,
-) {
+fn print_command(out: &mut Vec<u8>, totals: &mut Totals, byte: u8, answer: &Result<Option<Delivery>, Refusal>) {
     print_digits(out, totals.accepted + totals.refused + 1);
     out.push(b' ');
     out.push(hexadecimal_digit(byte >> 4));

@@ -165,8 +165,7 @@ const NAME_THEN_FILL: [u8; 64] = {
 };
 
 impl Record {
-    pub const NONE: Record =
-        Record { number: BatchNumber(0), temperature: 0, vessel: 0, length: 0, name: [0; 32] };
+    pub const NONE: Record = Record { number: BatchNumber(0), temperature: 0, vessel: 0, length: 0, name: [0; 32] };
 
     /// A good record, or the first refusal of "Send" that says why it is none:
     /// "11 batch number 0; 12 temperature out of range; 13 name length over 32;
@@ -247,13 +246,8 @@ pub struct Channel {
 }
 
 impl Channel {
-    pub const NONE: Channel = Channel {
-        sender: NodeNumber(0),
-        receiver: NodeNumber(0),
-        phase: RESTING,
-        offer: Record::NONE,
-        carried: Record::NONE,
-    };
+    pub const NONE: Channel =
+        Channel { sender: NodeNumber(0), receiver: NodeNumber(0), phase: RESTING, offer: Record::NONE, carried: Record::NONE };
 
     pub(crate) fn moving(&self) -> bool {
         self.phase == ASKING || self.phase == ANSWERING
@@ -353,10 +347,7 @@ impl Ring {
         self.require_sound()?;
         self.require_not_started()?;
         require((self.channel_count as usize) < CHANNELS, Refusal::SixtyFourChannels)?;
-        require(
-            sender.0 < self.node_count && receiver.0 < self.node_count,
-            Refusal::NotANodeSoFar,
-        )?;
+        require(sender.0 < self.node_count && receiver.0 < self.node_count, Refusal::NotANodeSoFar)?;
         let channel = &mut self.channels[self.channel_count as usize];
         channel.sender = sender;
         channel.receiver = receiver;
@@ -658,9 +649,7 @@ impl Ring {
 
     /// "Counts ... in range". The count of deliveries is, in its 32 bits.
     fn counts_sound(&self) -> bool {
-        self.started <= 1
-            && self.node_count as usize <= NODES
-            && self.channel_count as usize <= CHANNELS
+        self.started <= 1 && self.node_count as usize <= NODES && self.channel_count as usize <= CHANNELS
     }
 
     /// "1 to 64 slots for each node added; no buffer longer than its slots"; "a
@@ -675,16 +664,11 @@ impl Ring {
     /// c at least 1, b greater than c."
     fn start_sound(&self) -> bool {
         if self.started == 1 {
-            return self.node_count >= 1
-                && self.channel_count >= 1
-                && self.total_slots() > self.channel_count as u32;
+            return self.node_count >= 1 && self.channel_count >= 1 && self.total_slots() > self.channel_count as u32;
         }
         self.deliveries == 0
             && self.added_nodes().iter().all(|node| node.turn_mark == 0)
-            && self
-                .added_channels()
-                .iter()
-                .all(|channel| channel.phase == RESTING && channel.offer.number.0 == 0)
+            && self.added_channels().iter().all(|channel| channel.phase == RESTING && channel.offer.number.0 == 0)
     }
 
     /// The channels that are asking or answering, as a set; nothing if a
@@ -738,8 +722,7 @@ impl Ring {
             }
         }
         let first_unused = self.node_count as usize * SLOTS;
-        (all_zero(&self.lines[first_unused..]) && all_zero(&self.slots[first_unused..]))
-            .then_some(on_ring)
+        (all_zero(&self.lines[first_unused..]) && all_zero(&self.slots[first_unused..])).then_some(on_ring)
     }
 
     /// The channel of a cell in a queue, now counted; nothing if the cell names

@@ -86,10 +86,7 @@ pub fn read(bytes: &[u8], place: usize) -> Result<Read, Refusal> {
     let operands = left.get(1..width).ok_or(Refusal::CommandCut)?;
     let command = match byte {
         ADD_NODE => Command::AddNode { slots: operands[0] },
-        ADD_CHANNEL => Command::AddChannel {
-            sender: NodeNumber(operands[0]),
-            receiver: NodeNumber(operands[1]),
-        },
+        ADD_CHANNEL => Command::AddChannel { sender: NodeNumber(operands[0]), receiver: NodeNumber(operands[1]) },
         START => Command::Start,
         RECEIVE => Command::Receive(ChannelNumber(operands[0])),
         SEND_TENTHS => send(operands, Unit::Tenths),

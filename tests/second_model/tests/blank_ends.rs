@@ -1,10 +1,10 @@
 //! Request N4 of document 02, "Blanks at the ends of a name": its worked rows,
 //! the rings that hold such a name from before, and what `coverage` sees of names.
 
-use second_model::coverage::{self, Names, NAME_SIGHTS};
-use second_model::generate::{
-    self, fields_named, fields_to_send, good_record, record_named, Random,
-};
+use common::random::Random;
+use common::sights::Sights;
+use second_model::coverage::{self, NAME_SIGHTS};
+use second_model::generate::{self, fields_named, fields_to_send, good_record, record_named};
 use second_model::history::History;
 use second_model::listing;
 use second_model::ring::*;
@@ -211,29 +211,20 @@ fn the_named_tape() {
     let mut out = Vec::new();
     listing::run(&tape, &mut out);
     let text = String::from_utf8(out).expect("listings are ASCII");
-    let sends: Vec<&str> =
-        text.lines().filter_map(|line| line.split_once(" 21 ")).map(|(_, answer)| answer).collect();
-    let answers = [
-        "0", "30", "30", "30", "0", "30", "0", "30", "30", "30", "30", "14", "14", "13", "14",
-        "14", "30", "15",
-    ];
+    let sends: Vec<&str> = text.lines().filter_map(|line| line.split_once(" 21 ")).map(|(_, answer)| answer).collect();
+    let answers = ["0", "30", "30", "30", "0", "30", "0", "30", "30", "30", "30", "14", "14", "13", "14", "14", "30", "15"];
     assert_eq!(sends, answers);
-    let arrived: Vec<&str> = text
-        .lines()
-        .filter_map(|line| line.split_once(" delivered "))
-        .map(|(_, record)| record)
-        .collect();
+    let arrived: Vec<&str> = text.lines().filter_map(|line| line.split_once(" delivered ")).map(|(_, record)| record).collect();
     let long = "A".repeat(32);
     assert_eq!(arrived, ["0 7 3 6120 0", "4 7 3 6120 3 A B", &format!("6 7 3 6120 32 {long}")]);
     let seen = coverage::names(&tape);
-    assert!(seen.0.iter().all(|&count| count > 0), "{seen:?}");
+    assert_eq!(seen.missing(), [""; 0]);
 }
 
 /// A started ring's tape with these sends on channel 0.
 fn tape_of(sends: &[Fields]) -> Vec<u8> {
     let (sender, receiver) = (NodeNumber(0), NodeNumber(0));
-    let plan =
-        [Command::AddNode { slots: 2 }, Command::AddChannel { sender, receiver }, Command::Start];
+    let plan = [Command::AddNode { slots: 2 }, Command::AddChannel { sender, receiver }, Command::Start];
     let sends = sends.iter().map(|fields| Command::Send(CHANNEL_0, *fields));
     let mut bytes = Vec::new();
     for command in plan.into_iter().chain(sends) {
@@ -246,9 +237,8 @@ fn tape_of(sends: &[Fields]) -> Vec<u8> {
 
 /// What a send shows, as far as it is among the sights.
 fn seen(sends: &[Fields]) -> Vec<&'static str> {
-    let Names(counts) = coverage::names(&tape_of(sends));
-    let sights = NAME_SIGHTS.iter().zip(counts);
-    sights.flat_map(|(name, count)| (0..count).map(move |_| *name)).collect()
+    let seen = coverage::names(&tape_of(sends));
+    NAME_SIGHTS.into_iter().flat_map(|name| (0..seen.seen(name)).map(move |_| name)).collect()
 }
 
 #[test]
@@ -275,5 +265,5 @@ fn coverage_of_names_is_exact() {
     let before_15 = "30 with a record offered, where 15 applies too";
     assert_eq!(seen(&[fields_named(b"A"), fields_named(b"A ")]), [last, before_15]);
     assert_eq!(seen(&[fields_named(b"A"), fields_named(b"AB")]), [""; 0]);
-    assert_eq!(coverage::names(&[0x12; listing::TAPE_LIMIT + 1]), Names::default());
+    assert_eq!(coverage::names(&[0x12; listing::TAPE_LIMIT + 1]), Sights::of(NAME_SIGHTS));
 }

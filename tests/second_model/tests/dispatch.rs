@@ -1,8 +1,9 @@
 //! Request N3 of document 02, "A dispatcher for the ring": its worked cases, and
 //! what it says of every ring, on rings of drawn tapes.
 
+use common::random::Random;
 use second_model::dispatch::Dispatched;
-use second_model::generate::{fields_to_send, record_named, Random, Tapes};
+use second_model::generate::{fields_to_send, record_named, Tapes};
 use second_model::listing::apply;
 use second_model::ring::*;
 use second_model::tape::{self, Command, Read};
@@ -224,9 +225,7 @@ fn drawn_rings() {
                 load(&mut ring, random);
                 let made = holds(&ring, u16::MAX).rounds;
                 let given = [0, 1, made.saturating_sub(1), made, made + 1, ring.enough_rounds()];
-                given
-                    .into_iter()
-                    .for_each(|given| assert_eq!(holds(&ring, given).rounds, given.min(made)));
+                given.into_iter().for_each(|given| assert_eq!(holds(&ring, given).rounds, given.min(made)));
                 most = most.max(made);
             }
         }

@@ -30,9 +30,7 @@ fn note(history: &mut History, batch: u32, temperature: i16) -> u8 {
 }
 
 fn note_all(history: &mut History, batch: u32, temperatures: impl IntoIterator<Item = i16>) {
-    temperatures
-        .into_iter()
-        .for_each(|temperature| assert_eq!(note(history, batch, temperature), 0));
+    temperatures.into_iter().for_each(|temperature| assert_eq!(note(history, batch, temperature), 0));
 }
 
 /// (lowest, highest, sum)
@@ -205,14 +203,7 @@ fn a_bad_row() {
 /// At the edges of what is said, on this side.
 #[test]
 fn a_good_row() {
-    let good = [
-        Row::EMPTY,
-        row(1, &[0]),
-        row(u32::MAX, &[0; 24]),
-        row(7, &[-4000; 24]),
-        row(7, &[12000; 23]),
-        row(7, &[1, 0, 0, 2, 0]),
-    ];
+    let good = [Row::EMPTY, row(1, &[0]), row(u32::MAX, &[0; 24]), row(7, &[-4000; 24]), row(7, &[12000; 23]), row(7, &[1, 0, 0, 2, 0])];
     for good in good {
         for at in [0, 3, 127] {
             let mut table = [Row::EMPTY; ROWS];

@@ -35,8 +35,7 @@ fn channel(number: u8) -> ChannelNumber {
 fn the_listing() {
     let hexadecimal = "10 01 10 02 11 01 00 12 20 00 20 00 22 00 23 00 \
                        21 00 07 00 00 00 03 64 02 02 41 31";
-    let mut tape: Vec<u8> =
-        hexadecimal.split(' ').map(|byte| u8::from_str_radix(byte, 16).unwrap()).collect();
+    let mut tape: Vec<u8> = hexadecimal.split(' ').map(|byte| u8::from_str_radix(byte, 16).unwrap()).collect();
     tape.extend([0; 30]);
     tape.extend([0x22, 0x01, 0x23, 0x01, 0x23, 0x01]);
     assert_eq!(tape, generate::listing_tape());
@@ -112,11 +111,8 @@ fn the_turn_case() {
     assert_eq!(ring.move_at(node(1)), Ok(None));
     assert_eq!(ring.channels[0].phase, READY);
     assert_eq!(ring.move_at(node(0)), Ok(None));
-    let answers: Vec<String> = listing_of(&generate::turn_tape())
-        .lines()
-        .skip(7)
-        .map(|line| line.rsplit(' ').next().unwrap().to_string())
-        .collect();
+    let answers: Vec<String> =
+        listing_of(&generate::turn_tape()).lines().skip(7).map(|line| line.rsplit(' ').next().unwrap().to_string()).collect();
     assert_eq!(answers, ["0", "0", "0", "0", "0", "0", "21", "0", "20", "0", "0", "2"]);
 }
 
@@ -322,9 +318,7 @@ fn follow(tape: &[u8]) {
         assert!(ring.sound());
         match (&answer, &command) {
             (Err(_), _) => assert_eq!(ring, before),
-            (Ok(_), Command::Send(channel, fields)) => {
-                offered[channel.0 as usize].push(fields.record().unwrap())
-            }
+            (Ok(_), Command::Send(channel, fields)) => offered[channel.0 as usize].push(fields.record().unwrap()),
             (Ok(Some(delivery)), _) => {
                 let at = delivery.channel.0 as usize;
                 assert_eq!(delivery.record, offered[at][delivered[at]]);
@@ -341,9 +335,7 @@ fn check_hops(before: &Ring, after: &Ring, command: &Command, accepted: bool) {
     if before.started == 0 {
         return;
     }
-    let left = |ring: &Ring| -> u32 {
-        (0..ring.channel_count).map(|at| ring.hops_left(channel(at)).unwrap() as u32).sum()
-    };
+    let left = |ring: &Ring| -> u32 { (0..ring.channel_count).map(|at| ring.hops_left(channel(at)).unwrap() as u32).sum() };
     match command {
         Command::Move(_) if accepted => assert_eq!(left(after) + 1, left(before)),
         Command::Receive(at) if accepted => {

@@ -350,12 +350,8 @@ fn cells_that_hold_nothing_are_zero() {
             ("a buffer of a node not added", |ring| ring.nodes[15].buffer_length = 1),
             ("a line of a node not added", |ring| ring.nodes[15].line_length = 1),
             ("a mark of a node not added", |ring| ring.nodes[4].turn_mark = 1),
-            ("a record carried by a resting channel", |ring| {
-                ring.channels[4].carried = record_named(b"A1")
-            }),
-            ("a record carried by an asking channel", |ring| {
-                ring.channels[1].carried = record_named(b"A1")
-            }),
+            ("a record carried by a resting channel", |ring| ring.channels[4].carried = record_named(b"A1")),
+            ("a record carried by an asking channel", |ring| ring.channels[1].carried = record_named(b"A1")),
             ("a record carried by a ready channel", |ring| ring.channels[2].carried.name[31] = 1),
             ("part of an offer", |ring| ring.channels[1].offer.vessel = 1),
             ("part of an offer", |ring| ring.channels[1].offer.temperature = 1),
@@ -364,12 +360,8 @@ fn cells_that_hold_nothing_are_zero() {
             ("the sender of a channel not added", |ring| ring.channels[5].sender = node(1)),
             ("the receiver of a channel not added", |ring| ring.channels[63].receiver = node(1)),
             ("the phase of a channel not added", |ring| ring.channels[5].phase = READY),
-            ("an offer on a channel not added", |ring| {
-                ring.channels[63].offer = record_named(b"A1")
-            }),
-            ("a record carried by a channel not added", |ring| {
-                ring.channels[63].carried.name[0] = 1
-            }),
+            ("an offer on a channel not added", |ring| ring.channels[63].offer = record_named(b"A1")),
+            ("a record carried by a channel not added", |ring| ring.channels[63].carried.name[0] = 1),
         ],
     );
     let mut fresh = Ring::fresh();
@@ -429,7 +421,7 @@ fn started() {
 /// speed, agrees with `sound` on rings with one field changed at random.
 #[test]
 fn the_fast_check_agrees_with_the_letter() {
-    use second_model::generate::Random;
+    use common::random::Random;
     let random = &mut Random::new(4);
     let starts = [Ring::fresh(), planned(), busy(), response_on_its_way()];
     let mut sound = 0;
@@ -444,7 +436,7 @@ fn the_fast_check_agrees_with_the_letter() {
     assert!(sound > 1_000, "some changes leave the ring sound: {sound}");
 }
 
-fn change(ring: &mut Ring, random: &mut second_model::generate::Random) {
+fn change(ring: &mut Ring, random: &mut common::random::Random) {
     let small = random.below(6) as u8;
     let at_node = random.below(6);
     let at_channel = random.below(7);
@@ -482,15 +474,11 @@ fn sound_by_the_letter(ring: &Ring) -> bool {
             && node.turn_mark <= 1
             && (node.turn_mark == 0 || node.line_length > 0)
     });
-    let numbers_good = ring.channels[..c]
-        .iter()
-        .all(|ch| (ch.sender.0 as usize) < n && (ch.receiver.0 as usize) < n && ch.phase <= 3);
+    let numbers_good = ring.channels[..c].iter().all(|ch| (ch.sender.0 as usize) < n && (ch.receiver.0 as usize) < n && ch.phase <= 3);
     if !lengths_good || !numbers_good {
         return false;
     }
-    (0..c).all(|at| channel_good_by_the_letter(ring, at))
-        && zeros_by_the_letter(ring)
-        && start_by_the_letter(ring)
+    (0..c).all(|at| channel_good_by_the_letter(ring, at)) && zeros_by_the_letter(ring) && start_by_the_letter(ring)
 }
 
 fn channel_good_by_the_letter(ring: &Ring, at: usize) -> bool {

@@ -1,6 +1,7 @@
 //! The reader and the writer of the command tape.
 
-use second_model::generate::{fields_named, Random};
+use common::random::Random;
+use second_model::generate::fields_named;
 use second_model::ring::{BatchNumber, ChannelNumber, Fields, NodeNumber, Refusal, Unit};
 use second_model::tape::{read, width, write, Command, Read};
 
@@ -99,9 +100,7 @@ fn refusals_of_the_reader() {
                 for length in 1..width {
                     assert_eq!(read(&bytes[..length], 0), Err(Refusal::CommandCut));
                 }
-                assert!(
-                    matches!(read(&bytes[..width], 0), Ok(Read::Command(_, next)) if next == width)
-                );
+                assert!(matches!(read(&bytes[..width], 0), Ok(Read::Command(_, next)) if next == width));
             }
         }
     }

@@ -201,10 +201,8 @@ fn the_longest_line() {
 /// The plan of a ring as a tape, then calls.
 fn tape_of(slots: &[u8], channels: &[(u8, u8)], calls: &str) -> Vec<u8> {
     let plan = slots.iter().map(|&slots| Command::AddNode { slots });
-    let ends = channels.iter().map(|&(sender, receiver)| Command::AddChannel {
-        sender: NodeNumber(sender),
-        receiver: NodeNumber(receiver),
-    });
+    let ends =
+        channels.iter().map(|&(sender, receiver)| Command::AddChannel { sender: NodeNumber(sender), receiver: NodeNumber(receiver) });
     let commands = plan.chain(ends).chain([Command::Start]).chain(calls.split(' ').map(call));
     let mut bytes = Vec::new();
     for command in commands {

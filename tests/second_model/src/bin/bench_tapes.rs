@@ -18,9 +18,7 @@ fn main() -> ExitCode {
         let tape = generate::long_run(1978, nodes, channels);
         let totals = listing::run(&tape, &mut Vec::new());
         let file = folder.join(format!("nodes{nodes:02}_channels{channels:02}.tape"));
-        if let Err(error) =
-            std::fs::create_dir_all(&folder).and_then(|()| std::fs::write(&file, &tape))
-        {
+        if let Err(error) = std::fs::create_dir_all(&folder).and_then(|()| std::fs::write(&file, &tape)) {
             eprintln!("{}: {error}", file.display());
             return ExitCode::FAILURE;
         }
