@@ -54,8 +54,11 @@ pub record From (n m : ℕ) : Type 0 where
   pub number : ℕ
   pub pick : Lfts n → Lfts m
 
+abbrev pub starting : {n : ℕ} → ℕ → From n n
+starting i = record { number = i; pick = λ κs. κs }
+
 abbrev pub start : {n : ℕ} → From n n
-start = record { number = 0; pick = λ κs. κs }
+start = starting 0
 
 module _ {n m : ℕ} (from : From n (suc m)) where
   abbrev pub name : Lifetime
@@ -67,41 +70,40 @@ module _ {n m : ℕ} (from : From n (suc m)) where
   abbrev pub next : From n m
   next = record { number = suc (from .number); pick = λ κs. from .pick κs .1 }
 
--- ---- what is lent, in a function of n lifetimes
-module _ (n : ℕ) (κs : Lfts n) where
-  abbrev pub Things : (Ls : List Loan) → From n (many Ls) → Type 0
-  Things [] from = Unit {0}
-  Things (L ∷ Ls) from = L .row (name from) (life from κs) .Denot × Things Ls (next from)
+-- ---- what is lent, for the lifetimes ks, which are numbered from i on
+abbrev pub Things : (Ls : List Loan) → ℕ → Lfts (many Ls) → Type 0
+Things [] i ks = Unit {0}
+Things (L ∷ Ls) i ks = L .row (named i) (ks .0) .Denot × Things Ls (suc i) (ks .1)
 
-  -- each is a value of its type, and owns what its type says
-  abbrev pub AllAre : (Ls : List Loan) (from : From n (many Ls)) → Things Ls from → Type 0
-  AllAre [] from ss = Unit {0}
-  AllAre (L ∷ Ls) from ss =
-      Is (L .row (name from) (life from κs)) (ss .0) (L .val (name from) (life from κs) (ss .0) ∷ []) × AllAre Ls (next from) (ss .1)
+-- each is a value of its type, and owns what its type says
+abbrev pub AllAre : (Ls : List Loan) (i : ℕ) (ks : Lfts (many Ls)) → Things Ls i ks → Type 0
+AllAre [] i ks ss = Unit {0}
+AllAre (L ∷ Ls) i ks ss =
+    Is (L .row (named i) (ks .0)) (ss .0) (L .val (named i) (ks .0) (ss .0) ∷ []) × AllAre Ls (suc i) (ks .1) (ss .1)
 
-  abbrev pub AllOwn : (Ls : List Loan) (from : From n (many Ls)) → Things Ls from → Fml
-  AllOwn [] from ss = ftrue
-  AllOwn (L ∷ Ls) from ss =
-      fsep (L .row (name from) (life from κs) .own (ss .0) (L .val (name from) (life from κs) (ss .0) ∷ [])) (AllOwn Ls (next from) (ss .1))
+abbrev pub AllOwn : (Ls : List Loan) (i : ℕ) (ks : Lfts (many Ls)) → Things Ls i ks → Fml
+AllOwn [] i ks ss = ftrue
+AllOwn (L ∷ Ls) i ks ss =
+    fsep (L .row (named i) (ks .0) .own (ss .0) (L .val (named i) (ks .0) (ss .0) ∷ [])) (AllOwn Ls (suc i) (ks .1) (ss .1))
 
-  -- their last values, that these fit, what says them, and what is had of the things at exit
-  abbrev pub Finals : (Ls : List Loan) (from : From n (many Ls)) → Things Ls from → Type 0
-  Finals [] from ss = Unit {0}
-  Finals (L ∷ Ls) from ss = Last (L .row (name from) (life from κs) .exit yes) (ss .0) × Finals Ls (next from) (ss .1)
+-- their last values, that these fit, what says them, and what is had of the things at exit
+abbrev pub Finals : (Ls : List Loan) (i : ℕ) (ks : Lfts (many Ls)) → Things Ls i ks → Type 0
+Finals [] i ks ss = Unit {0}
+Finals (L ∷ Ls) i ks ss = Last (L .row (named i) (ks .0) .exit yes) (ss .0) × Finals Ls (suc i) (ks .1) (ss .1)
 
-  abbrev pub AllFit : (Ls : List Loan) (from : From n (many Ls)) (ss : Things Ls from) → Finals Ls from ss → Type 0
-  AllFit [] from ss zs = Unit {0}
-  AllFit (L ∷ Ls) from ss zs = L .fit (name from) (life from κs) (ss .0) (zs .0) × AllFit Ls (next from) (ss .1) (zs .1)
+abbrev pub AllFit : (Ls : List Loan) (i : ℕ) (ks : Lfts (many Ls)) (ss : Things Ls i ks) → Finals Ls i ks ss → Type 0
+AllFit [] i ks ss zs = Unit {0}
+AllFit (L ∷ Ls) i ks ss zs = L .fit (named i) (ks .0) (ss .0) (zs .0) × AllFit Ls (suc i) (ks .1) (ss .1) (zs .1)
 
-  abbrev pub AllLeft : (Ls : List Loan) (from : From n (many Ls)) (ss : Things Ls from) → Finals Ls from ss → Fml
-  AllLeft [] from ss zs = ftrue
-  AllLeft (L ∷ Ls) from ss zs =
-      fsep (left (L .row (name from) (life from κs) .exit yes) (ss .0) (zs .0)) (AllLeft Ls (next from) (ss .1) (zs .1))
+abbrev pub AllLeft : (Ls : List Loan) (i : ℕ) (ks : Lfts (many Ls)) (ss : Things Ls i ks) → Finals Ls i ks ss → Fml
+AllLeft [] i ks ss zs = ftrue
+AllLeft (L ∷ Ls) i ks ss zs =
+    fsep (left (L .row (named i) (ks .0) .exit yes) (ss .0) (zs .0)) (AllLeft Ls (suc i) (ks .1) (ss .1) (zs .1))
 
-  abbrev pub AllHad : (Ls : List Loan) (from : From n (many Ls)) (ss : Things Ls from) → Finals Ls from ss → Fml
-  AllHad [] from ss zs = ftrue
-  AllHad (L ∷ Ls) from ss zs =
-      fsep (L .has (name from) (life from κs) (ss .0) (zs .0) (L .val (name from) (life from κs) (ss .0) ∷ [])) (AllHad Ls (next from) (ss .1) (zs .1))
+abbrev pub AllHad : (Ls : List Loan) (i : ℕ) (ks : Lfts (many Ls)) (ss : Things Ls i ks) → Finals Ls i ks ss → Fml
+AllHad [] i ks ss zs = ftrue
+AllHad (L ∷ Ls) i ks ss zs =
+    fsep (L .has (named i) (ks .0) (ss .0) (zs .0) (L .val (named i) (ks .0) (ss .0) ∷ [])) (AllHad Ls (suc i) (ks .1) (ss .1) (zs .1))
 
 -- ---- the parameters: what is lent, and plain values behind it
 module _ (ps : List Kind) (n : ℕ) where
@@ -137,7 +139,7 @@ module _ (ps : List Kind) (n : ℕ) where
     words-all Ls from a = valss (Types Ls from) (spells-all Ls from) a
 
     -- its two parts
-    abbrev pub things : (Ls : List Loan) (from : From n (many Ls)) → Denots (Types Ls from) → Things n κs Ls from
+    abbrev pub things : (Ls : List Loan) (from : From n (many Ls)) → Denots (Types Ls from) → Things Ls (from .number) (from .pick κs)
     things [] from a = tt
     things (L ∷ Ls) from a = (a .0, things Ls (next from) (a .1))
 
@@ -146,19 +148,19 @@ module _ (ps : List Kind) (n : ℕ) where
     plains (L ∷ Ls) from a = plains Ls (next from) (a .1)
 
     abbrev pub joined :
-        (Ls : List Loan) (from : From n (many Ls)) → Things n κs Ls from → Denots (typesAt (slots n ps) κs) → Denots (Types Ls from)
+        (Ls : List Loan) (from : From n (many Ls)) → Things Ls (from .number) (from .pick κs) → Denots (typesAt (slots n ps) κs) → Denots (Types Ls from)
     joined [] from ss b = b
     joined (L ∷ Ls) from ss b = (ss .0, joined Ls (next from) (ss .1) b)
 
     pub plains-joined :
-        (Ls : List Loan) (from : From n (many Ls)) (ss : Things n κs Ls from) (b : Denots (typesAt (slots n ps) κs)) →
+        (Ls : List Loan) (from : From n (many Ls)) (ss : Things Ls (from .number) (from .pick κs)) (b : Denots (typesAt (slots n ps) κs)) →
         plains Ls from (joined Ls from ss b) ≡ b
     plains-joined [] from ss b = refl
     plains-joined (L ∷ Ls) from ss b = plains-joined Ls (next from) (ss .1) b
 
     pub all-are :
         (Ls : List Loan) (from : From n (many Ls)) (a : Denots (Types Ls from)) →
-        Are (Types Ls from) (Ises (Types Ls from)) a (words-all Ls from a) → AllAre n κs Ls from (things Ls from a)
+        Are (Types Ls from) (Ises (Types Ls from)) a (words-all Ls from a) → AllAre Ls (from .number) (from .pick κs) (things Ls from a)
     all-are [] from a are = tt
     all-are (L ∷ Ls) from a are = (are .0, all-are Ls (next from) (a .1) (are .1))
 
@@ -171,41 +173,44 @@ module _ (ps : List Kind) (n : ℕ) where
 
     -- at exit
     abbrev pub ends-all :
-        (Ls : List Loan) (from : From n (many Ls)) (a : Denots (Types Ls from)) → Finals n κs Ls from (things Ls from a) →
+        (Ls : List Loan) (from : From n (many Ls)) (a : Denots (Types Ls from)) → Finals Ls (from .number) (from .pick κs) (things Ls from a) →
         Fins κs (slots n ps) (kept n ps) (plains Ls from a) → Fins κs (lent Ls from) (all yes (lent Ls from)) a
     ends-all [] from a zs ws = ws
     ends-all (L ∷ Ls) from a zs ws = (zs .0, ends-all Ls (next from) (a .1) (zs .1) ws)
 
     all-fit :
-        (Ls : List Loan) (from : From n (many Ls)) (a : Denots (Types Ls from)) (zs : Finals n κs Ls from (things Ls from a))
-        (ws : Fins κs (slots n ps) (kept n ps) (plains Ls from a)) → AllFit n κs Ls from (things Ls from a) zs →
+        (Ls : List Loan) (from : From n (many Ls)) (a : Denots (Types Ls from)) (zs : Finals Ls (from .number) (from .pick κs) (things Ls from a))
+        (ws : Fins κs (slots n ps) (kept n ps) (plains Ls from a)) → AllFit Ls (from .number) (from .pick κs) (things Ls from a) zs →
         fitsOf κs (lent Ls from) (all yes (lent Ls from)) (stayed Ls from) a (ends-all Ls from a zs ws)
     all-fit [] from a zs ws fits = fit n κs ps a ws
     all-fit (L ∷ Ls) from a zs ws fits = (fits .0, all-fit Ls (next from) (a .1) (zs .1) ws (fits .1))
 
     all-had :
         {M : Type 1} (𝓤 : URA M) (H : Heap 𝓤) (A : Atoms 𝓤) (Ls : List Loan) (from : From n (many Ls)) (a : Denots (Types Ls from))
-        (zs : Finals n κs Ls from (things Ls from a)) (ws : Fins κs (slots n ps) (kept n ps) (plains Ls from a)) →
-        ent 𝓤 (sem 𝓤 H A (AllHad n κs Ls from (things Ls from a) zs))
+        (zs : Finals Ls (from .number) (from .pick κs) (things Ls from a)) (ws : Fins κs (slots n ps) (kept n ps) (plains Ls from a)) →
+        ent 𝓤 (sem 𝓤 H A (AllHad Ls (from .number) (from .pick κs) (things Ls from a) zs))
         (sem 𝓤 H A (hasOf κs (lent Ls from) (all yes (lent Ls from)) (stayed Ls from) a (ends-all Ls from a zs ws) (words-all Ls from a)))
     all-had 𝓤 H A [] from a zs ws = none-had n 𝓤 H A κs ps a ws (words-all [] from a)
     all-had 𝓤 H A (L ∷ Ls) from a zs ws =
         monoR 𝓤 (sem 𝓤 H A (L .has (name from) (life from κs) (a .0) (zs .0) (L .val (name from) (life from κs) (a .0) ∷ [])))
         (all-had 𝓤 H A Ls (next from) (a .1) (zs .1) ws)
 
--- ---- the function
+-- ---- the function, with its lifetimes numbered from i on: those of a function are from 0 on, and a caller may see them behind others of its own
+abbrev pub LentFrom : ℕ → List Loan → List Kind → Kind → Ended
+LentFrom i Ls ps Y = record {
+  signature = record { lifetimes = many Ls; outlives = []; params = lent ps (many Ls) Ls (starting i); result = plain (λ _. Y .row) };
+  kept = all yes (lent ps (many Ls) Ls (starting i));
+}
+
 module _ (Ls : List Loan) (ps : List Kind) (Y : Kind) where
   abbrev n : ℕ
   n = many Ls
 
   abbrev pub Lent : Ended
-  Lent = record {
-    signature = record { lifetimes = n; outlives = []; params = lent ps n Ls start; result = plain (λ _. Y .row) };
-    kept = all yes (lent ps n Ls start);
-  }
+  Lent = LentFrom 0 Ls ps Y
 
   module _ (κs : Lfts n) where
-    abbrev pub lents : Args (Lent .signature) κs → Things n κs Ls start
+    abbrev pub lents : Args (Lent .signature) κs → Things Ls 0 κs
     lents a = things ps n κs Ls start a
 
     abbrev pub others : Args (Lent .signature) κs → Denots (typesAt (slots n ps) κs)
@@ -215,7 +220,7 @@ module _ (Ls : List Loan) (ps : List Kind) (Y : Kind) where
     spelled a = words-all ps n κs Ls start a
 
     abbrev pub ended-at :
-        (a : Args (Lent .signature) κs) → Finals n κs Ls start (lents a) → Fins κs (slots n ps) (kept n ps) (others a) →
+        (a : Args (Lent .signature) κs) → Finals Ls 0 κs (lents a) → Fins κs (slots n ps) (kept n ps) (others a) →
         Fins κs (Lent .signature .params) (Lent .kept) a
     ended-at a zs ws = ends-all ps n κs Ls start a zs ws
 
@@ -227,13 +232,13 @@ module _ (Ls : List Loan) (ps : List Kind) (Y : Kind) where
     clauses Q κs a = record { ghost = Unit {0}; requires = λ _. emp 𝓤; ensures = λ _. Q κs a }
 
   -- at exit what is lent is `Final`, and `Answer` is returned
-  module _ (Final : (κs : Lfts n) (a : Args (Lent .signature) κs) → Finals n κs Ls start (lents κs a))
+  module _ (Final : (κs : Lfts n) (a : Args (Lent .signature) κs) → Finals Ls 0 κs (lents κs a))
       (Answer : (κs : Lfts n) → Args (Lent .signature) κs → Y .row .Denot) {M : Type 1} (𝓤 : URA M) where
     -- the clause holds of these, by what the types of what is lent say of it: that the count of a slice fits a usize, say
     abbrev pub Says : Clause 𝓤 → Type 1
     Says Q =
         (κs : Lfts n) (a : Args (Lent .signature) κs) (ws : Fins κs (slots n ps) (kept n ps) (others κs a)) →
-        AllAre n κs Ls start (lents κs a) → ent 𝓤 (emp 𝓤) (Q κs a (Answer κs a) (atExit Lent κs a (ended-at κs a (Final κs a) ws)))
+        AllAre Ls 0 κs (lents κs a) → ent 𝓤 (emp 𝓤) (Q κs a (Answer κs a) (atExit Lent κs a (ended-at κs a (Final κs a) ws)))
 
     module _ (H : Heap 𝓤) where
       module _ (A : Atoms 𝓤) (W : Given 𝓤 H A) (Q : Clause 𝓤) where
@@ -254,10 +259,10 @@ module _ (Ls : List Loan) (ps : List Kind) (Y : Kind) where
           Post = walkOf 𝓤 H A Lent stays-all (clauses 𝓤 Q) .post y
 
           pub exits :
-              Says Q → AllAre n κs Ls start (lents κs a) → AllFit n κs Ls start (lents κs a) (Final κs a) → Fine Y r →
-              ent 𝓤 (sep 𝓤 (toks 𝓤 A n κs qs) (sem 𝓤 H A (AllHad n κs Ls start (lents κs a) (Final κs a)))) (Post (Y .val r))
+              Says Q → AllAre Ls 0 κs (lents κs a) → AllFit Ls 0 κs (lents κs a) (Final κs a) → Fine Y r →
+              ent 𝓤 (sep 𝓤 (toks 𝓤 A n κs qs) (sem 𝓤 H A (AllHad Ls 0 κs (lents κs a) (Final κs a)))) (Post (Y .val r))
           exits says are fits fine =
-              qed W (raw (toks 𝓤 A n κs qs) ∷ ‵ (AllHad n κs Ls start (lents κs a) (Final κs a)) ∷ []) ∵
+              qed W (raw (toks 𝓤 A n κs qs) ∷ ‵ (AllHad Ls 0 κs (lents κs a) (Final κs a)) ∷ []) ∵
               suffices ! _ (ends-at 𝓤 H A Lent stays-all (clauses 𝓤 Q) W y (Y .val r) r ends
               (all-fit ps n κs Ls start a (Final κs a) (lasts n κs ps (others κs a)) fits)) $
               suffices ! _ (beside 𝓤 (says κs a (lasts n κs ps (others κs a)) are)) $ frame ! $
