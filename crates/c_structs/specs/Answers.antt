@@ -13,14 +13,14 @@ use Rattle.network.specs.Runs.{Call}
 use Rattle.c_structs.specs.declared.Delivery.{Delivery}
 use Rattle.c_structs.specs.declared.HopsLeft.{HopsLeft}
 use Rattle.c_structs.specs.declared.Waiting as C
-use Rattle.c_structs.specs.declared.Said.{Said}
+use Rattle.c_structs.specs.declared.AnswerNumbers.{AnswerNumbers}
 use Rattle.c_structs.specs.declared.Rounds.{Rounds}
 
-abbrev pub numbers : ℕ → ℕ → ℕ → ℕ → ℕ → Said
+abbrev pub numbers : ℕ → ℕ → ℕ → ℕ → ℕ → AnswerNumbers
 numbers n d k h w = record { refusal = n; delivered = d; channel = k; hops = h; set = w }
 
 -- all that an answer can say; what it does not say is 0
-abbrev pub numbersIn : Answer → Said
+abbrev pub numbersIn : Answer → AnswerNumbers
 numbersIn Done = numbers 0 0 0 0 0
 numbersIn (Delivered k) = numbers 0 1 (k .0) 0 0
 numbersIn (Hops h) = numbers 0 0 0 h 0

@@ -92,7 +92,7 @@ pub struct Writing {
 }
 
 // All that an answer can say, in numbers; what it does not say is 0.
-struct Said {
+struct AnswerNumbers {
     refusal: u8,
     delivered: u8,
     channel: u8,
@@ -100,10 +100,10 @@ struct Said {
     set: u64,
 }
 
-fn numbers(refusal: u8, delivered: u8, channel: u8, hops: u8, set: u64) -> Said
+fn numbers(refusal: u8, delivered: u8, channel: u8, hops: u8, set: u64) -> AnswerNumbers
     ensures { λ r. ⌜ r ≡ numbers refusal delivered channel hops set ⌝ }
 {
-    Said {
+    AnswerNumbers {
         refusal,
         delivered,
         channel,
@@ -112,7 +112,7 @@ fn numbers(refusal: u8, delivered: u8, channel: u8, hops: u8, set: u64) -> Said
     }
 }
 
-fn numbers_in(answer: Answer) -> Said
+fn numbers_in(answer: Answer) -> AnswerNumbers
     ensures { λ r. ⌜ r ≡ numbersIn answer ⌝ }
 {
     match answer {

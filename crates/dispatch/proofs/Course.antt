@@ -30,7 +30,7 @@ use Rattle.updates.specs.Openings.{afterStart, openingOf}
 use Rattle.updates.proofs.Openings.{running, begun-is}
 use Rattle.dispatch.specs.declared.HeadRun.{HeadRun}
 use Rattle.dispatch.specs.Log.{Log, logOf, loggedAll}
-use Rattle.dispatch.specs.Rounds.{CanGo, Went, Ran}
+use Rattle.dispatch.specs.Rounds.{CanGo, CallsMade, RoundsRan}
 use Rattle.dispatch.proofs.Going.{went-on, goes-on, nodes-stay}
 
 abbrev made : ℕ → Ring → ℕ
@@ -57,14 +57,14 @@ same-end a b c = rw (a, b, c)
 
 -- a round, where something is on the ring
 one-round : (left done : ℕ) {ring next : Ring} {l kept : Log} → still (view ring) ≡ false → nodeCount (view next) ≡ nodeCount (view ring) →
-    Went (round (nodeCount (view ring))) ring l next kept → endOf left (suc done) next kept ≡ endOf (suc left) done ring l
+    CallsMade (round (nodeCount (view ring))) ring l next kept → endOf left (suc done) next kept ≡ endOf (suc left) done ring l
 one-round left done {ring} {next} {l} {kept} busy same w =
     let n : ℕ = nodeCount (view ring) in
     let m : ℕ = made left (run callRing (round n) ring) in
     let more : List Call = times m (round n) in
     let there : calls left next ≡ more =
     ap (λ (r : Ring). times (made left r) (round (nodeCount (view next)))) (w .ring-is) ∙ ap (λ k. times m (round k)) same in
-    let all : Went (round n ++ more) ring l (run callRing more next) (loggedAll (deliveries callRing more next) kept) =
+    let all : CallsMade (round n ++ more) ring l (run callRing more next) (loggedAll (deliveries callRing more next) kept) =
     went-on more w (record { ring-is = refl; log-is = refl }) in
     let counted : suc done + made left next ≡ done + suc m = omega (arith, ap (made left) (w .ring-is)) in
     rw busy
@@ -98,14 +98,14 @@ module _ {given : ℕ} {ring : Ring} {l : Log} {done : ℕ} {now : Ring} {kept :
   nodes-are {other} h = sound-ring other (h .ok) .holds .node-count
 
   pub course-goes-on : {next : Ring} {more : Log} → done < given → still (view now) ≡ false →
-      Went (round (now .head .«node_count»)) now kept next more → InCourse given ring l (done + 1) next more
+      CallsMade (round (now .head .«node_count»)) now kept next more → InCourse given ring l (done + 1) next more
   course-goes-on {next} {more} below busy w =
       let n : ℕ = now .head .«node_count» in
       let on : CanGo next (more .count) = goes-on (going-round n) (c .can-go) w in
       let same : nodeCount (view next) ≡ nodeCount (view now) =
       sym (nodes-are on) ∙ nodes-stay (going-round n) (c .can-go) w ∙ nodes-are (c .can-go) in
       let left : given - done ≡ suc (given - (done + 1)) = omega arith in
-      let step = one-round (given - (done + 1)) done busy same (subst (λ k. Went (round k) now kept next more) (nodes-are (c .can-go)) w) in
+      let step = one-round (given - (done + 1)) done busy same (subst (λ k. CallsMade (round k) now kept next more) (nodes-are (c .can-go)) w) in
       record {
         within = omega arith;
         can-go = on;
@@ -126,7 +126,7 @@ dispatches given {ring} h = rw (h .ok, running ring (h .ok) (h .going))
 
 -- and what the code answers at the end of its loop
 pub ran-so : (given : ℕ) {ring : Ring} (channels records : List ℕ) {r : HeadRun} {now : Ring} {kept : Log} → CanGo ring 0 → r .answer ≡ Done →
-    endOf given 0 ring (logOf channels records 0) ≡ end now kept (r .rounds) → Ran given ring channels records r now kept
+    endOf given 0 ring (logOf channels records 0) ≡ end now kept (r .rounds) → RoundsRan given ring channels records r now kept
 ran-so given {ring} channels records h done ends =
     let is = dispatches given h in
     let from-none : 0 + made given ring ≡ made given ring = omega arith in
@@ -169,7 +169,7 @@ turned-away given ring {r} same told =
 
 pub not-run : (given : ℕ) (ring : Ring) (channels records : List ℕ) {r : Refusal} → dispatchRing given ring ≡ notRun r →
     let told : HeadRun = record { head = ring .head; answer = Answer.Refused r; rounds = 0; count = 0 } in
-    Ran given ring channels records told ring (logOf channels records 0)
+    RoundsRan given ring channels records told ring (logOf channels records 0)
 not-run given ring channels records is =
     record {
       ring-is = sym (ap (afterDispatch ring) is);

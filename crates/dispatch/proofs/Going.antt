@@ -28,7 +28,7 @@ use Rattle.network.proofs.Promises.Tried.{goes, Tried, tried, on-ring-most}
 use Rattle.updates.specs.Known.{AtNode}
 use Rattle.updates.proofs.Openings.{running}
 use Rattle.dispatch.specs.Log.{Log, loggedAll}
-use Rattle.dispatch.specs.Rounds.{CanGo, Went}
+use Rattle.dispatch.specs.Rounds.{CanGo, CallsMade}
 use Rattle.dispatch.proofs.Log.{logged-more, logged-count, handed-in}
 
 pub can-begin : (ring : Ring) → soundRing ring ≡ true → ring .head .started ≢ 0 → CanGo ring 0
@@ -69,11 +69,11 @@ module _ {ring : Ring} {count : ℕ} (h : CanGo ring count) (a : Call) (g : goes
 
 -- made one after the other
 
-pub went-none : (ring : Ring) (l : Log) → Went [] ring l ring l
+pub went-none : (ring : Ring) (l : Log) → CallsMade [] ring l ring l
 went-none ring l = record { ring-is = refl; log-is = refl }
 
 pub went-on : {xs : List Call} {ring : Ring} {l : Log} {next : Ring} {kept : Log} (ys : List Call) {last : Ring} {all : Log} →
-    Went xs ring l next kept → Went ys next kept last all → Went (xs ++ ys) ring l last all
+    CallsMade xs ring l next kept → CallsMade ys next kept last all → CallsMade (xs ++ ys) ring l last all
 went-on {xs} {ring} {l} {next} {kept} ys a b =
     record {
       ring-is = b .ring-is ∙ ap (run callRing ys) (a .ring-is) ∙ sym (run-append callRing xs ys ring);
@@ -96,7 +96,7 @@ gone (go {a} {calls} g rest) {ring} {count} h =
     (record { ok = later .0 .ok; going = later .0 .going; room = omega (arith, later .0 .room, all) }, later .1 ∙ same-nodes h a g)
 
 module _ {calls : List Call} (g : Going calls) {ring : Ring} {l : Log} {next : Ring} {kept : Log} (h : CanGo ring (l .count))
-    (w : Went calls ring l next kept) where
+    (w : CallsMade calls ring l next kept) where
   pub goes-on : CanGo next (kept .count)
   goes-on =
       let after-all = gone g h .0 in
@@ -154,13 +154,13 @@ module _ {ring : Ring} (l : Log) (p : NodeNo) (h : CanGo ring (l .count))
     place-there = omega (arith, ap length told, room-there can-move (move p) refl)
 
     pub visited : {kept : Log} → kept ≡ loggedAll (listed (deliveredIn (moved .reply))) l →
-        Went (enter p ∷ move p ∷ []) ring l (moved .ring) kept
+        CallsMade (enter p ∷ move p ∷ []) ring l (moved .ring) kept
     visited {kept} is =
         let next : moved .ring ≡ after (entered .ring) (callRing (move p) (entered .ring)) = ap (λ s. s .ring) m in
         let none : deliveries callRing (enter p ∷ []) ring ≡ [] = rw (enter-quiet p ring) refl in
-        let first : Went (enter p ∷ []) ring l (entered .ring) l =
+        let first : CallsMade (enter p ∷ []) ring l (entered .ring) l =
         record { ring-is = sym ring-entered; log-is = rw none refl } in
-        let second : Went (move p ∷ []) (entered .ring) l (moved .ring) kept =
+        let second : CallsMade (move p ∷ []) (entered .ring) l (moved .ring) kept =
         record { ring-is = next; log-is = is ∙ ap (λ ds. loggedAll ds l) (told ∙ sym (append-nil _)) } in
         went-on (move p ∷ []) first second
 
@@ -169,7 +169,7 @@ pub record InRound (ring : Ring) (l : Log) (nodes node : ℕ) (now : Ring) (kept
   pub within : node ≤ nodes
   pub nodes-are : nodes ≡ ring .head .«node_count»
   pub can-go : CanGo now (kept .count)
-  pub went : Went (round node) ring l now kept
+  pub went : CallsMade (round node) ring l now kept
   pub same-nodes : now .head .«node_count» ≡ nodes
 
 pub round-begins : {ring : Ring} (l : Log) → CanGo ring (l .count) → InRound ring l (ring .head .«node_count») 0 ring l
@@ -178,7 +178,7 @@ round-begins {ring} l h =
 
 pub round-goes-on : {ring : Ring} {l : Log} {nodes node : ℕ} {now : Ring} {kept : Log} {next : Ring} {more : Log} →
     InRound ring l nodes node now kept →
-    node < nodes → Went (enter (nodeNo node) ∷ move (nodeNo node) ∷ []) now kept next more → InRound ring l nodes (node + 1) next more
+    node < nodes → CallsMade (enter (nodeNo node) ∷ move (nodeNo node) ∷ []) now kept next more → InRound ring l nodes (node + 1) next more
 round-goes-on {node = node} r below w =
     let visit : Going (enter (nodeNo node) ∷ move (nodeNo node) ∷ []) = go refl (go refl none-go) in
     record {
@@ -190,7 +190,7 @@ round-goes-on {node = node} r below w =
     }
 
 pub round-made : {ring : Ring} {l : Log} {nodes node : ℕ} {now : Ring} {kept : Log} → InRound ring l nodes node now kept → nodes ≤ node →
-    Went (round nodes) ring l now kept
+    CallsMade (round nodes) ring l now kept
 round-made {ring} {l} {nodes} {node} {now} {kept} r all =
     let same : node ≡ nodes = omega (arith, r .within) in
-    subst (λ n. Went (round n) ring l now kept) same (r .went)
+    subst (λ n. CallsMade (round n) ring l now kept) same (r .went)

@@ -31,7 +31,7 @@ use Rattle.updates.specs.Flat.{recorded}
 use Rattle.updates.proofs.Records.{recorded-row}
 use Rattle.dispatch.specs.declared.HeadRun.{HeadRun}
 use Rattle.dispatch.specs.Log.{Log, logOf, logged, loggedAll, recordRows, recordsIn, Kept, keptOf, toldFrom}
-use Rattle.dispatch.specs.Rounds.{CanGo, Ran}
+use Rattle.dispatch.specs.Rounds.{CanGo, RoundsRan}
 use Rattle.dispatch.proofs.Going.{can-begin, made, can-go-on, gone}
 
 -- one more behind the others
@@ -190,7 +190,7 @@ module _ (given : ℕ) (ring : Ring) where
 
   -- what was kept from zeros on is what the deliveries are
   pub keeps : {r : HeadRun} {next : Ring} {log : Log} →
-      Ran given ring (replicate channelRoom 0) (replicate recordRoom 0) r next log →
+      RoundsRan given ring (replicate channelRoom 0) (replicate recordRoom 0) r next log →
       _≡_ {A = Kept} (record { ring = next; answer = r .answer; rounds = r .rounds; log = log }) (keptOf ring (dispatchRing given ring))
   keeps w =
       let all = w .log-is ∙ ap (loggedAll handed) none-kept ∙ kept-all handed (handed-fit .each) [] (omega (arith, handed-fit .few)) in

@@ -23,7 +23,7 @@ pub record CanGo (ring : Ring) (count : ℕ) : Type 0 where
   pub room : count + onRing (view ring) ≤ channelRoom
 
 -- these calls were made one after the other, and what they delivered was kept
-pub record Went (calls : List Call) (ring : Ring) (log : Log) (next : Ring) (kept : Log) : Type 0 where
+pub record CallsMade (calls : List Call) (ring : Ring) (log : Log) (next : Ring) (kept : Log) : Type 0 where
   pub ring-is : next ≡ run callRing calls ring
   pub log-is : kept ≡ loggedAll (deliveries callRing calls ring) log
 
@@ -35,7 +35,7 @@ unfoldable pub noneMoving : List ℕ → ℕ → Bool
 noneMoving phases count = allBelow count (λ k. not (isMoving (getD phases k 0)))
 
 -- what a call of the dispatcher comes to, on a ring whose parts are lent and with these places for its deliveries
-pub record Ran (given : ℕ) (ring : Ring) (channels records : List ℕ) (r : HeadRun) (next : Ring) (kept : Log) : Type 0 where
+pub record RoundsRan (given : ℕ) (ring : Ring) (channels records : List ℕ) (r : HeadRun) (next : Ring) (kept : Log) : Type 0 where
   pub ring-is : next ≡ afterDispatch ring (dispatchRing given ring)
   pub answer-is : r .answer ≡ answerOf (dispatchRing given ring) .answer
   pub rounds-are : r .rounds ≡ answerOf (dispatchRing given ring) .rounds

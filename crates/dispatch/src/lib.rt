@@ -31,7 +31,7 @@ ghost use Rattle.network.specs.Dispatcher.{dispatchIn, dispatchStep};
 ghost use Rattle.network.specs.Layout.{channelRoom, ringIn};
 ghost use Rattle.network.specs.Runs;
 ghost use Rattle.dispatch.specs.Log.{logOf, loggedAll, recordsIn};
-ghost use Rattle.dispatch.specs.Rounds.{CanGo, Went, Ran, isMoving, noneMoving};
+ghost use Rattle.dispatch.specs.Rounds.{CanGo, CallsMade, RoundsRan, isMoving, noneMoving};
 
 // The head of the ring between two tries, and how many deliveries there were.
 struct Progress {
@@ -76,7 +76,7 @@ fn visit(
 ) -> Progress
     requires { ⌜ CanGo (ringIn (progress .head) (now slots) (now lines) (now offers) (now carried)) (progress .count) ⌝ }
     requires { ⌜ node .0 < progress .head .«node_count» ⌝ }
-    ensures { λ r. ⌜ Went (Runs.enter node ∷ Runs.move node ∷ [])
+    ensures { λ r. ⌜ CallsMade (Runs.enter node ∷ Runs.move node ∷ [])
         (ringIn (progress .head) (now (slots .entry)) (now (lines .entry)) (now (offers .entry)) (now (carried .entry)))
         (logOf (now (channels .entry)) (now (records .entry)) (progress .count))
         (ringIn (r .head) (now (slots .exit)) (now (lines .exit)) (now (offers .exit)) (now (carried .exit)))
@@ -103,7 +103,7 @@ fn round(
     records: &mut Records,
 ) -> Progress
     requires { ⌜ CanGo (ringIn (progress .head) (now slots) (now lines) (now offers) (now carried)) (progress .count) ⌝ }
-    ensures { λ r. ⌜ Went (Dispatch.round (progress .head .«node_count»))
+    ensures { λ r. ⌜ CallsMade (Dispatch.round (progress .head .«node_count»))
         (ringIn (progress .head) (now (slots .entry)) (now (lines .entry)) (now (offers .entry)) (now (carried .entry)))
         (logOf (now (channels .entry)) (now (records .entry)) (progress .count))
         (ringIn (r .head) (now (slots .exit)) (now (lines .exit)) (now (offers .exit)) (now (carried .exit)))
@@ -163,7 +163,7 @@ fn rounds(
     given: u16,
 ) -> HeadRun
     requires { ⌜ CanGo (ringIn head (now slots) (now lines) (now offers) (now carried)) 0 ⌝ }
-    ensures { λ r. ⌜ Ran given
+    ensures { λ r. ⌜ RoundsRan given
         (ringIn head (now (slots .entry)) (now (lines .entry)) (now (offers .entry)) (now (carried .entry)))
         (now (channels .entry)) (now (records .entry)) r
         (ringIn (r .head) (now (slots .exit)) (now (lines .exit)) (now (offers .exit)) (now (carried .exit)))
@@ -198,7 +198,7 @@ fn run(
     records: &mut Records,
     given: u16,
 ) -> HeadRun
-    ensures { λ r. ⌜ Ran given
+    ensures { λ r. ⌜ RoundsRan given
         (ringIn head (now (slots .entry)) (now (lines .entry)) (now (offers .entry)) (now (carried .entry)))
         (now (channels .entry)) (now (records .entry)) r
         (ringIn (r .head) (now (slots .exit)) (now (lines .exit)) (now (offers .exit)) (now (carried .exit)))

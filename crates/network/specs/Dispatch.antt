@@ -72,12 +72,12 @@ handedOut (notRun r) = []
 handedOut (ran rounds ds t) = ds
 
 -- what it says: its number, 0 where it is accepted, and the rounds and the deliveries
-pub record Told : Type 0 where
+pub record DispatchSaid : Type 0 where
   pub number : ℕ
   pub rounds : ℕ
   pub handed : List Delivery
 
-abbrev pub toldIn : {S : Type 0} → Dispatch S → Told
+abbrev pub toldIn : {S : Type 0} → Dispatch S → DispatchSaid
 toldIn (notRun r) = record { number = numberOf r; rounds = 0; handed = [] }
 toldIn (ran rounds ds s) = record { number = 0; rounds = rounds; handed = ds }
 
@@ -89,7 +89,7 @@ pub data Act : Type 0 where
 -- what an act says, and a refusal of it by its number alone
 pub data ActSaid : Type 0 where
   singly : Said → ActSaid
-  inRounds : Told → ActSaid
+  inRounds : DispatchSaid → ActSaid
 
 abbrev pub turnedDown : ℕ → Act → ActSaid
 turnedDown n (single a) = singly (says n)

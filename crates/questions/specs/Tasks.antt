@@ -39,19 +39,19 @@ abbrev pub tasksTo : NodeNo → Ring → Tasks
 tasksTo node ring = tasksIn (replyOf (callRing (Runs.waitingSet node) ring) .answer)
 
 -- document 01's number and value for each case of the answer; a refusal answers its number alone
-pub record Said : Type 0 where
+pub record CountSaid : Type 0 where
   pub number : ℕ
   pub tasks : ℕ
 
-abbrev pub says : ℕ → ℕ → Said
+abbrev pub says : ℕ → ℕ → CountSaid
 says number tasks = record { number = number; tasks = tasks }
 
-abbrev pub saidIn : Tasks → Said
+abbrev pub saidIn : Tasks → CountSaid
 saidIn (Waiting tasks) = says 0 tasks
 saidIn (Refused r) = says (numberOf r) 0
 
 -- what document 01 has answered to the question: 25 on an unsound ring, 16 where there is no such node, or how many tasks wait
-abbrev pub tasksSaid : NodeNo → Ring → Said
+abbrev pub tasksSaid : NodeNo → Ring → CountSaid
 tasksSaid node ring =
     unless (soundRing ring) (says 25 0)
     (unless (ltb (node .0) (nodeCount (view ring))) (says 16 0)

@@ -15,7 +15,7 @@ use Rattle.runner.specs.declared.Progress.{Progress}
 use Rattle.runner.specs.Session.{next, lines, afterLines}
 use Rattle.network.specs.Sound.{oneMore}
 use Rattle.runner.specs.Listing.{toCome}
-use Rattle.runner.specs.Run.{Ran, Placed, Turned, Printing, finished, PrintsTheListing}
+use Rattle.runner.specs.Run.{TapeRan, Placed, PrintedPut, Printing, finished, PrintsTheListing}
 use Rattle.runner.specs.Run
 use Rattle.runner.proofs.Lines.{nothing-after, line-by-line, some-line, last-session, last-line}
 use Rattle.runner.proofs.Counts.{from-the-beginning}
@@ -65,7 +65,7 @@ module _ {line : List ℕ} {at : ℕ} {before after : List ℕ} {end : ℕ} (p :
   as-long = rw (p .buffer) (length-overwritten before line at (omega (arith, p .ends, p .within)))
 
 module _ {tape before : List ℕ} {first : Session} {out : List ℕ} {s : Session} {at : ℕ} (h : SoFar tape before first out s at)
-    (e : s .over ≡ false) {after : List ℕ} {s' : Session} {end : ℕ} (t : Turned (next oneMore tape s) at out after s' end) where
+    (e : s .over ≡ false) {after : List ℕ} {s' : Session} {end : ℕ} (t : PrintedPut (next oneMore tape s) at out after s' end) where
   abbrev size : ℕ
   size = length (next oneMore tape s .line)
 
@@ -103,7 +103,7 @@ module _ {tape before : List ℕ} {first : Session} {out : List ℕ} {s : Sessio
 
 -- a run may end where the session is over, or there is less room than for the longest line
 pub ran : {tape before : List ℕ} {first : Session} {out : List ℕ} {s : Session} {at : ℕ} → SoFar tape before first out s at
-    → (s .over ≡ false → length before < at + lineRoom) → Ran tape first before out (record { session = s; written = at })
+    → (s .over ≡ false → length before < at + lineRoom) → TapeRan tape first before out (record { session = s; written = at })
 ran {at = at} h full = record {
   count = h .count;
   session = h .reached;
@@ -116,7 +116,7 @@ ran {at = at} h full = record {
 }
 
 -- For a caller that runs a tape until it is over: each run into a buffer with room for a line leaves fewer bytes to come.
-pub fewer-to-come : {tape before after : List ℕ} {s : Session} {p : Progress} → Ran tape s before after p
+pub fewer-to-come : {tape before after : List ℕ} {s : Session} {p : Progress} → TapeRan tape s before after p
     → length after ≡ length before → s .over ≡ false → lineRoom ≤ length before
     → length (toCome tape (p .session)) < length (toCome tape s)
 fewer-to-come {tape} {before} {after} {s} {p} r same e room =

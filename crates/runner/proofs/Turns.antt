@@ -20,7 +20,7 @@ use Rattle.runner.specs.declared.Session.{Session}
 use Rattle.runner.specs.declared.Turn.{Turn}
 use Rattle.runner.specs.Session.{longest}
 use Rattle.network.specs.Sound.{oneMore}
-use Rattle.runner.specs.Tally.{sessionOf, Begun, closedTally, countedTally, Told, Went}
+use Rattle.runner.specs.Tally.{sessionOf, Begun, closedTally, countedTally, LinePut, NextPut}
 use Rattle.runner.proofs.Lines.{next-too-long, Reads, next-read, next-end, next-refused}
 
 -- a run begins with the session's ring and tally
@@ -32,25 +32,25 @@ begins s turn b =
 
 -- the line of a command with this reply, which goes on from this place
 abbrev CommandLine : List ℕ → Tally → Reply → ℕ → ℕ → List ℕ → List ℕ → Line → Type 0
-CommandLine tape t reply place = Told (lineOf (t .number) (getD tape (t .place) 0) reply) (countedTally t (reply .answer) place)
+CommandLine tape t reply place = LinePut (lineOf (t .number) (getD tape (t .place) 0) reply) (countedTally t (reply .answer) place)
 
 module _ (tape : List ℕ) (ring : Ring) (l : Line) {out after : List ℕ} {l' : Line} where
-  pub too-long : longest < length tape → Told tooLong (closedTally (l .tally)) (l .written) out after l' → Went tape ring l ring l' out after
+  pub too-long : longest < length tape → LinePut tooLong (closedTally (l .tally)) (l .written) out after l' → NextPut tape ring l ring l' out after
   too-long h w =
       rw (next-too-long oneMore tape (sessionOf ring (l .tally)) h) (record { session = ap (sessionOf ring) (w .tally); line = w .line })
 
   module _ {r : Reading} (h : Reads tape (sessionOf ring (l .tally)) r) where
     pub ran : {step : Step} {place : ℕ} → r .answer ≡ Read place → step ≡ stepRing (callOf (r .command)) ring
-        → CommandLine tape (l .tally) (step .reply) place (l .written) out after l' → Went tape ring l (step .ring) l' out after
+        → CommandLine tape (l .tally) (step .reply) place (l .written) out after l' → NextPut tape ring l (step .ring) l' out after
     ran {step} a e w =
         rw (next-read oneMore tape h a e) (record { session = ap (sessionOf (step .ring)) (w .tally); line = w .line })
 
-    pub ended : r .answer ≡ End → Told (endOf (l .tally .accepted) (l .tally .refused)) (closedTally (l .tally)) (l .written) out after l'
-        → Went tape ring l ring l' out after
+    pub ended : r .answer ≡ End → LinePut (endOf (l .tally .accepted) (l .tally .refused)) (closedTally (l .tally)) (l .written) out after l'
+        → NextPut tape ring l ring l' out after
     ended a w = rw (next-end oneMore tape h a) (record { session = ap (sessionOf ring) (w .tally); line = w .line })
 
     pub refused : {reply : Reply} {x : Refusal} → r .answer ≡ Refused x → reply ≡ replyOf {S = Ring} (Calls.refused x)
-        → CommandLine tape (l .tally) reply (length tape) (l .written) out after l' → Went tape ring l ring l' out after
+        → CommandLine tape (l .tally) reply (length tape) (l .written) out after l' → NextPut tape ring l ring l' out after
     refused {reply} {x} a e w =
         let told : CommandLine tape (l .tally) (replyOf {S = Ring} (Calls.refused x)) (length tape) (l .written) out after l' = rw e at w in
         rw (next-refused oneMore tape h a) (record { session = ap (sessionOf ring) (told .tally); line = told .line })

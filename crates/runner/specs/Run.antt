@@ -18,7 +18,7 @@ use Rattle.runner.specs.Listing.{listingOf, toCome}
 -- A run of a tape from session s: the next `count` lines, at the front of the buffer, and the session after them; the rest of the buffer
 -- is as it was. The run ends only where the session is over or there is less room than for the longest line, so something is written
 -- where there is room and a line to come. What was written and what is then to come are together what was to come.
-pub record Ran (tape : List ℕ) (s : Session) (before after : List ℕ) (p : Progress) : Type 0 where
+pub record TapeRan (tape : List ℕ) (s : Session) (before after : List ℕ) (p : Progress) : Type 0 where
   pub count : ℕ
   pub session : p .session ≡ afterLines oneMore count tape s
   pub printed : take (p .written) after ≡ lines oneMore count tape s
@@ -32,7 +32,7 @@ pub record Ran (tape : List ℕ) (s : Session) (before after : List ℕ) (p : Pr
 -- wrote.
 pub data Printing (tape : List ℕ) : Session → List ℕ → Type 0 where
   finished : {s : Session} → s .over ≡ true → Printing tape s []
-  ran : {s : Session} {before after : List ℕ} {p : Progress} {bytes : List ℕ} → Ran tape s before after p
+  ran : {s : Session} {before after : List ℕ} {p : Progress} {bytes : List ℕ} → TapeRan tape s before after p
       → Printing tape (p .session) bytes → Printing tape s (take (p .written) after ++ bytes)
 
 -- a caller that runs a tape from the beginning until it is over prints the tape's listing
@@ -46,7 +46,7 @@ pub record Placed (line : List ℕ) (at : ℕ) (before after : List ℕ) (end : 
   pub buffer : after ≡ overwritten before at line
 
 -- what was printed: the session after it, and its line put at a place of the buffer
-pub record Turned (printed : Printed) (at : ℕ) (before after : List ℕ) (s : Session) (end : ℕ) : Type 0 where
+pub record PrintedPut (printed : Printed) (at : ℕ) (before after : List ℕ) (s : Session) (end : ℕ) : Type 0 where
   pub session : s ≡ printed .session
   pub line : Placed (printed .line) at before after end
 

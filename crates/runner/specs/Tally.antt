@@ -13,7 +13,7 @@ use Rattle.runner.specs.declared.Turn.{Turn}
 use Rattle.network.specs.Answers.{isRefusal}
 use Rattle.network.specs.Sound.{oneMore}
 use Rattle.runner.specs.Session.{next}
-use Rattle.runner.specs.Run.{Placed, Turned}
+use Rattle.runner.specs.Run.{Placed, PrintedPut}
 
 -- the session of a ring and a tally
 abbrev pub sessionOf : Ring → Tally → Session
@@ -47,11 +47,11 @@ countedTally t answer next = record {
 }
 
 -- what was told: a line put at a place of the buffer, and the tally after it
-pub record Told (text : List ℕ) (next : Tally) (at : ℕ) (before after : List ℕ) (l : Line) : Type 0 where
+pub record LinePut (text : List ℕ) (next : Tally) (at : ℕ) (before after : List ℕ) (l : Line) : Type 0 where
   pub tally : l .tally ≡ next
   pub line : Placed text at before after (l .written)
 
 -- from this ring and line, the next line of the session was put after it, and left that ring and line
-abbrev pub Went : List ℕ → Ring → Line → Ring → Line → List ℕ → List ℕ → Type 0
-Went tape ring l ring' l' before after =
-    Turned (next oneMore tape (sessionOf ring (l .tally))) (l .written) before after (sessionOf ring' (l' .tally)) (l' .written)
+abbrev pub NextPut : List ℕ → Ring → Line → Ring → Line → List ℕ → List ℕ → Type 0
+NextPut tape ring l ring' l' before after =
+    PrintedPut (next oneMore tape (sessionOf ring (l .tally))) (l .written) before after (sessionOf ring' (l' .tally)) (l' .written)

@@ -20,8 +20,8 @@ ghost use Rattle.network.specs.Calls;
 ghost use Rattle.network.specs.Layout.{ringIn};
 ghost use Rattle.report.specs.Line.{lineRoom, lineOf, endOf, tooLong};
 ghost use Rattle.runner.specs.Session.{beginning};
-ghost use Rattle.runner.specs.Run.{Ran, Placed, endOfPut};
-ghost use Rattle.runner.specs.Tally.{sessionOf, Begun, closedTally, countedTally, Told, Went};
+ghost use Rattle.runner.specs.Run.{TapeRan, Placed, endOfPut};
+ghost use Rattle.runner.specs.Tally.{sessionOf, Begun, closedTally, countedTally, LinePut, NextPut};
 
 // The longest tape that is run.
 pub const LONGEST_TAPE: usize = 60000;
@@ -210,7 +210,7 @@ fn counted(mut tally: Tally, answer: Answer, next: usize) -> Tally
 // The line of a command with this reply, and the tally after it.
 fn told(tape: &[u8], tally: Tally, reply: Reply, next: usize, out: &mut [u8], at: usize) -> Line
     requires { ⌜ at + lineRoom ≤ length (now out) ⌝ }
-    ensures { λ r. ⌜ Told (lineOf (tally .number) (getD (now (tape .entry)) (tally .place) 0) reply)
+    ensures { λ r. ⌜ LinePut (lineOf (tally .number) (getD (now (tape .entry)) (tally .place) 0) reply)
         (countedTally tally (reply .answer) next) at (now (out .entry)) (now (out .exit)) r ⌝ }
 {
     let code = code_at(tape, tally.place);
@@ -223,7 +223,7 @@ fn told(tape: &[u8], tally: Tally, reply: Reply, next: usize, out: &mut [u8], at
 // The last line of a tape that was run, and the tally after it.
 fn last(tally: Tally, out: &mut [u8], at: usize) -> Line
     requires { ⌜ at + lineRoom ≤ length (now out) ⌝ }
-    ensures { λ r. ⌜ Told (endOf (tally .accepted) (tally .refused)) (closedTally tally) at (now (out .entry)) (now (out .exit)) r ⌝ }
+    ensures { λ r. ⌜ LinePut (endOf (tally .accepted) (tally .refused)) (closedTally tally) at (now (out .entry)) (now (out .exit)) r ⌝ }
 {
     let written = put_end(out, at, tally.accepted, tally.refused);
     let tally = closed(tally);
@@ -233,7 +233,7 @@ fn last(tally: Tally, out: &mut [u8], at: usize) -> Line
 // The only line of a tape that is too long, and the tally after it.
 fn too_long(tally: Tally, out: &mut [u8], at: usize) -> Line
     requires { ⌜ at + lineRoom ≤ length (now out) ⌝ }
-    ensures { λ r. ⌜ Told tooLong (closedTally tally) at (now (out .entry)) (now (out .exit)) r ⌝ }
+    ensures { λ r. ⌜ LinePut tooLong (closedTally tally) at (now (out .entry)) (now (out .exit)) r ⌝ }
 {
     let written = put_too_long(out, at);
     let tally = closed(tally);
@@ -251,7 +251,7 @@ fn next_line(
     out: &mut [u8],
 ) -> Turn
     requires { ⌜ turn .line .written + lineRoom ≤ length (now out) ⌝ }
-    ensures { λ r. ⌜ Went (now (tape .entry))
+    ensures { λ r. ⌜ NextPut (now (tape .entry))
         (ringIn (turn .head) (now (slots .entry)) (now (lines .entry)) (now (offers .entry)) (now (carried .entry))) (turn .line)
         (ringIn (r .head) (now (slots .exit)) (now (lines .exit)) (now (offers .exit)) (now (carried .exit))) (r .line)
         (now (out .entry)) (now (out .exit)) ⌝ }
@@ -289,7 +289,7 @@ fn next_line(
 // Runs the tape on from a session: whole lines into the buffer, as long as there is room for any line and one to come. A caller runs
 // until the session is over, and prints what was written each time. The ring is large: the loop lends its parts to the call.
 pub fn run(tape: &[u8], session: Session, out: &mut [u8]) -> Progress
-    ensures { λ r. ⌜ Ran (now (tape .entry)) session (now (out .entry)) (now (out .exit)) r ⌝ }
+    ensures { λ r. ⌜ TapeRan (now (tape .entry)) session (now (out .entry)) (now (out .exit)) r ⌝ }
 {
     let ring = session.ring;
     let mut slots = ring.slots;

@@ -6,7 +6,7 @@
 //
 // An exported call makes a command or a question of its numbers, hands the ring on to `site`, and tells the reply in numbers. One more takes
 // its maker in `c_structs` and the function here, with a proof that names the three functions; where its answer has a value that no other
-// has, a field of `Said` of `c_structs` and of the struct that it answers; its prototype in the header, and its arm in tests/calls. One more
+// has, a field of `AnswerNumbers` of `c_structs` and of the struct that it answers; its prototype in the header, and its arm in tests/calls. One more
 // command of the tape takes nothing here: `commands` of `c_structs` reads the tape's own table.
 use batch::BatchRecord;
 use batch::sending::Fields;

@@ -36,7 +36,7 @@ abbrev pub left : Network → ℕ
 left σ = todo (netOf σ) (stateOf σ)
 
 -- what is known where an outcome is answered on the ring σ
-pub record Went (L : Limits) (σ : Network) (o : Outcome Network) : Type 0 where
+pub record AfterTry (L : Limits) (σ : Network) (o : Outcome Network) : Type 0 where
   pub started : Started L (after σ o)
   pub same-net : netOf (after σ o) ≡ netOf σ
   pub less : one (isAccepted o) + left (after σ o) ≤ left σ
@@ -58,7 +58,7 @@ module _ (L : Limits) (σ : Network) (s : Started L σ) where
   tried-did (hopsLeft k) g = absurd (false≢true g)
   tried-did (waitingSet p) g = absurd (false≢true g)
 
-  went-after : {a : Call} {o : Outcome Network} → goes a ≡ true → After (Stepped σ a) o → Went L σ o
+  went-after : {a : Call} {o : Outcome Network} → goes a ≡ true → After (Stepped σ a) o → AfterTry L σ o
   went-after g not-done =
       record {
         started = s;
@@ -80,5 +80,5 @@ module _ (L : Limits) (σ : Network) (s : Started L σ) where
         good = good-turn (netOf σ) (s .tables) turned;
       }
 
-  pub went : (a : Call) → goes a ≡ true → Went L σ (call L a σ)
+  pub went : (a : Call) → goes a ≡ true → AfterTry L σ (call L a σ)
   went a g = went-after g (tried-did a g)

@@ -18,7 +18,7 @@ use Rattle.network.specs.Calls
 use Rattle.network.specs.Runs.{Call, addNode, addChannel, start, receive, send, enter, move, withdraw, hopsLeft, waitingSet, sentOn, call, after, run, offeredBy, offeredOn, deliveredOn}
 use Rattle.network.specs.Layout.{ringLimits, view, hold, freshRing, soundRing, callRing}
 use Rattle.network.specs.Answers.{answers}
-use Rattle.network.specs.Worked.BlankEnds.{oldOffer, oldCarried, wholeWay, wayBack, Row, sends, answered, RingBlanks, HoldsAsWell, StillSound, StillServed, NoneDelivered}
+use Rattle.network.specs.Worked.BlankEnds.{oldOffer, oldCarried, wholeWay, wayBack, SendRow, sends, answered, RingBlanks, HoldsAsWell, StillSound, StillServed, NoneDelivered}
 use Rattle.network.proofs.Worked.BlankEnds as lists
 use Rattle.network.proofs.Ground.Splits.{by-test, both-ways, and-left}
 use Rattle.network.proofs.Ground.Joined.{ready-is}
@@ -38,7 +38,7 @@ held-answers σ calls ok =
     ring-demand3 .each (hold σ) calls (sound-hold σ ok) .same-answers
     ∙ ap (answers (call ringLimits) calls) (sound-view σ ok)
 
-pub rows-answer : (rs : List Row) →
+pub rows-answer : (rs : List SendRow) →
     map (answered (λ before. run callRing before freshRing) callRing) rs
     ≡ map (answered (λ before. run (call ringLimits) before fresh) (call ringLimits)) rs
 rows-answer [] = refl

@@ -12,7 +12,7 @@ use Rattle.network.specs.Network.{Network, fresh, channel}
 use Rattle.network.specs.Calls.{Delivery, unless}
 use Rattle.network.specs.Runs.{Call, call, run}
 use Rattle.network.specs.Layout.{ringLimits, view, freshRing, soundRing, callRing}
-use Rattle.network.specs.Dispatch.{Told, toldIn, round, onRing, deliveries, notRun, ran, afterDispatch, Act, single, dispatch, dispatched, afterAct, actDeliveries, standsFor, spelledOut}
+use Rattle.network.specs.Dispatch.{DispatchSaid, toldIn, round, onRing, deliveries, notRun, ran, afterDispatch, Act, single, dispatch, dispatched, afterAct, actDeliveries, standsFor, spelledOut}
 use Rattle.network.specs.Worked.Edges.{c0}
 use Rattle.network.specs.Worked.Withdrawals.{matchedPair}
 use Rattle.network.specs.Worked.Rounds.{backward, bare, forward, leaves, WorkedRounds, RoundsTold, WorkedActs, ActsSpelled, RingRounds}
@@ -83,7 +83,7 @@ module _ (before : List Call) where
       after-there (run callRing before freshRing) (fresh-sound before) (dispatch given)
       ∙ ap (afterAct (λ σ. true) (λ σ. σ) (call ringLimits) (dispatch given)) (fresh-run before)
 
-  worked : {given : ℕ} {told : Told} {left : ℕ} → WorkedRounds fresh (λ σ. true) (λ σ. σ) (call ringLimits) before given told left →
+  worked : {given : ℕ} {told : DispatchSaid} {left : ℕ} → WorkedRounds fresh (λ σ. true) (λ σ. σ) (call ringLimits) before given told left →
       WorkedRounds freshRing soundRing view callRing before given told left
   worked {given} w =
       record {

@@ -58,20 +58,20 @@ abbrev pub wholeWay : List Call
 wholeWay = enter n0 ∷ move n0 ∷ wayBack
 
 -- a row of the table: after these calls record x is sent on channel k, and this is the number answered
-pub record Row : Type 0 where
+pub record SendRow : Type 0 where
   pub before : List Call
   pub at : ChannelNo
   pub sent : BatchRecord
   pub number : ℕ
 
-abbrev pub row : List Call → ChannelNo → BatchRecord → ℕ → Row
+abbrev pub row : List Call → ChannelNo → BatchRecord → ℕ → SendRow
 row before k x number = record { before = before; at = k; sent = x; number = number }
 
 -- a name on a started ring where nothing is offered
-abbrev pub name : ℕ → List ℕ → ℕ → Row
+abbrev pub name : ℕ → List ℕ → ℕ → SendRow
 name size bytes number = row oneWay c0 (named size bytes) number
 
-unfoldable pub sends : List Row
+unfoldable pub sends : List SendRow
 sends =
     -- an empty name has no ends; a name of one blank has two
     name 0 [] 0
@@ -96,11 +96,11 @@ sends =
 
 -- Asked of whatever answers ring calls: `after` is what lists of calls make of a fresh one, `made` what holds a ring, `sound` the test for 25.
 module _ {S : Type 0} (after : List Call → S) (step : Call → S → Outcome S) where
-  abbrev pub answered : Row → ℕ
+  abbrev pub answered : SendRow → ℕ
   answered r = outcomeNumber (step (send (r .at) (r .sent)) (after (r .before)))
 
   abbrev pub SendsAnswer : Type 0
-  SendsAnswer = map answered sends ≡ map (λ (r : Row). r .number) sends
+  SendsAnswer = map answered sends ≡ map (λ (r : SendRow). r .number) sends
 
 module _ {S : Type 0} (made : Network → S) (sound : S → Bool) (step : Call → S → Outcome S) where
   pub record OldRings : Type 0 where

@@ -17,7 +17,7 @@ use Rattle.network.specs.Layout.{freshRing, callRing}
 use Rattle.network.specs.Answers.{actionCall, says, delivers, answers}
 use Rattle.network.specs.Worked.Edges.{ends, plan, n0, n1, c0, c1, sample}
 use Rattle.network.specs.Worked.Withdrawals.{begin, oneWay}
-use Rattle.network.specs.Worked.BlankEnds.{Row, row, requested, answered}
+use Rattle.network.specs.Worked.BlankEnds.{SendRow, row, requested, answered}
 
 -- what a command gives: a batch number, a temperature in its unit, a name's length, and its first byte
 abbrev pub given : ℕ → ℤ → ℕ → ℕ → Fields
@@ -28,10 +28,10 @@ abbrev pub reading : ℤ → Fields
 reading degrees = given 7 degrees 2 0x41
 
 -- this temperature on a started ring where nothing is offered
-abbrev pub warm : Scale → ℤ → ℕ → Row
+abbrev pub warm : Scale → ℤ → ℕ → SendRow
 warm scale degrees number = row oneWay c0 (recordFrom scale (reading degrees)) number
 
-unfoldable pub temperatures : List Row
+unfoldable pub temperatures : List SendRow
 temperatures =
     -- command 21: tenths, -400 to 1200; ten times 3277 and ten times 6554 do not fit 16 bits
     warm Tenths (pos 1200) 0
@@ -71,7 +71,7 @@ bothUnits =
 -- asked of whatever answers ring calls, as in BlankEnds
 module _ {S : Type 0} (after : List Call → S) (step : Call → S → Outcome S) where
   abbrev pub TemperaturesAnswer : Type 0
-  TemperaturesAnswer = map (answered after step) temperatures ≡ map (λ (r : Row). r .number) temperatures
+  TemperaturesAnswer = map (answered after step) temperatures ≡ map (λ (r : SendRow). r .number) temperatures
 
   abbrev pub BothDelivered : Type 0
   BothDelivered =

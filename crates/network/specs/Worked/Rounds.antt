@@ -14,7 +14,7 @@ use Rattle.network.specs.Calls.{Delivery, Outcome}
 use Rattle.network.specs.Runs.{Call, receive, send, enter, run, counted}
 use Rattle.network.specs.Layout.{view, freshRing, soundRing, callRing}
 use Rattle.network.specs.Answers.{says, delivers, answers}
-use Rattle.network.specs.Dispatch.{Told, toldIn, round, onRing, still, afterDispatch, Act, single, dispatch, roundsMade, spelled, dispatched, runActs, actDeliveries, spelledOut}
+use Rattle.network.specs.Dispatch.{DispatchSaid, toldIn, round, onRing, still, afterDispatch, Act, single, dispatch, roundsMade, spelled, dispatched, runActs, actDeliveries, spelledOut}
 use Rattle.network.specs.Worked.Edges.{ends, plan, sample, c0, workedRecord}
 use Rattle.network.specs.Worked.Withdrawals.{begin, oneWay, oneWaits, twoSame, matchedPair}
 
@@ -32,10 +32,10 @@ abbrev pub delivery : ℕ → BatchRecord → Delivery
 delivery k x = record { channel = channelNo k; «record» = x }
 
 -- so many rounds made, with deliveries on these channels; or a refusal
-abbrev pub tells : ℕ → List ℕ → Told
+abbrev pub tells : ℕ → List ℕ → DispatchSaid
 tells rounds ks = record { number = 0; rounds = rounds; handed = map (λ k. delivery k (recordOf k)) ks }
 
-abbrev pub turnsDown : ℕ → Told
+abbrev pub turnsDown : ℕ → DispatchSaid
 turnsDown n = record { number = n; rounds = 0; handed = [] }
 
 -- The rings, on the plans of Withdrawals and on others: a channel from node 1 to node 0 that has asked, with a record and without; one from
@@ -74,7 +74,7 @@ module _ {S : Type 0} (fresh : S) (sound : S → Bool) (seen : S → Network) (s
   leaves before given = afterDispatch (begun before) (dispatched sound seen step given (begun before))
 
   -- after these calls, given so many rounds, the dispatcher tells this, and leaves so many messages on the ring
-  pub record WorkedRounds (before : List Call) (given : ℕ) (told : Told) (left : ℕ) : Type 0 where
+  pub record WorkedRounds (before : List Call) (given : ℕ) (told : DispatchSaid) (left : ℕ) : Type 0 where
     pub is-told : toldIn (dispatched sound seen step given (begun before)) ≡ told
     pub is-left : onRing (seen (leaves before given)) ≡ left
 
