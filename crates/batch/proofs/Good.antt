@@ -12,17 +12,13 @@ use borrow.Author.Tests.{eq-eqb, ne-eqb, le-leb, lt-leb, lt-ltb, ltb-true, ltb-f
 use Rattle.refusal.specs.declared.Refusal.{Refusal}
 use Rattle.refusal.specs.declared.Refusal.the-variants.{BatchNumberZero, TemperatureOutOfRange, NameTooLong, BadName, BlankEnd}
 use Rattle.refusal.specs.declared.Verdict.{Verdict}
+use Rattle.numbers.proofs.Splits.{by-test}
 use Rattle.refusal.specs.declared.Verdict.the-variants.{Passed, Refused}
 use Rattle.refusal.specs.Number.{verdictNumber}
 use Rattle.refusal.proofs.Verdicts.{hasPassed, has-passed, zero-passed}
 use Rattle.batch.specs.declared.BatchRecord.{BatchRecord}
 use Rattle.batch.specs.Good.{inRange, nameLimit, batchGood, tempGood, nameLengthGood, nameGood, widthsGood}
 use Rattle.batch.specs.Good.{goodRecord, verdictOf, blankEnds, sendVerdict, GoodExactly, GoodIsZero, GoodNumber, SentExactly, Means30}
-
--- by cases on a test, each with the test's outcome in hand
-pub by-test : {A : Type 0} (b : Bool) → (b ≡ true → A) → (b ≡ false → A) → A
-by-test true f g = f refl
-by-test false f g = g refl
 
 -- a `≤` of integers is the failure of the other `<`
 leb-not-ltb : (a b : ℕ) → leb a b ≡ not (ltb b a)

@@ -12,7 +12,7 @@ use borrow.Author.Tests.{ltb-true, ltb-false}
 use lib.Dec.{ltb}
 use lib.Seq.{drop-cons, drop-length}
 use Rattle.batch.specs.Good.{every, firstThen, isZero, isCharacter, nameCellsGood}
-use Rattle.batch.proofs.Good.{by-test}
+use Rattle.numbers.proofs.Splits.{by-test}
 
 -- ---- cells of any type, all of which pass one test
 pub every-more : {A : Type 0} (f : A → Bool) (xs : List A) (i : ℕ) (d : A) → i < length xs →

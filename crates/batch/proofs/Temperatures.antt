@@ -24,7 +24,8 @@ use Rattle.batch.specs.declared.sending.Scale.the-variants.{Tenths, Hund
 use Rattle.batch.specs.Good.{inRange, batchGood, tempGood, nameLengthGood, nameGood, widthsGood, blankEnds, verdictOf, sendVerdict}
 use Rattle.batch.specs.Sending.{inTenths, tenfold, inScale, asHundredths, made, OneRange, Means12, MadeOfTenths, MadeOfHundredths}
 use Rattle.batch.specs.Sending.{recordWith, recordFrom, sentAs, sentFrom}
-use Rattle.batch.proofs.Good.{by-test, batch-zero, batch-not-zero, temp-tested, verdict-batch, verdict-temp, sent-bad}
+use Rattle.batch.proofs.Good.{batch-zero, batch-not-zero, temp-tested, verdict-batch, verdict-temp, sent-bad}
+use Rattle.numbers.proofs.Splits.{by-test}
 
 pub made-of-tenths : MadeOfTenths
 unfolding made

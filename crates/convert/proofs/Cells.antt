@@ -9,7 +9,7 @@ use Rattle.batch.specs.declared.sending.Made.{Made}
 use Rattle.batch.specs.declared.sending.Made.the-variants.{Temperature, Refused}
 use Rattle.batch.specs.declared.sending.Scale.the-variants.{Tenths}
 use Rattle.batch.specs.Sending.{inTenths, made}
-use Rattle.batch.proofs.Good.{by-test}
+use Rattle.numbers.proofs.Splits.{by-test}
 use Rattle.convert.specs.TablePass.{turnedCell}
 
 -- what is made of a cell, or the cell

@@ -17,7 +17,7 @@ use Rattle.batch.specs.declared.BatchRecord.{BatchRecord}
 use Rattle.batch.specs.Good.{nameLimit}
 use Rattle.batch.specs.Blank.{noRecord}
 use Rattle.batch.specs.Sending.{inTenths, tenfold}
-use Rattle.batch.proofs.Good.{by-test}
+use Rattle.numbers.proofs.Splits.{by-test}
 use Rattle.batch.proofs.Temperatures.{below-zero, tenfold-fits}
 use Rattle.wire.specs.Bytes.{number, numberAt, signed, Bytes}
 use Rattle.wire.specs.Record.{recordLength, recordBytes, recordIn, RecordFits}

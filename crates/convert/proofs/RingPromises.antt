@@ -7,7 +7,7 @@ use lib.IntN.{pos}
 use lib.ListN.{length-map}
 use Rattle.refusal.specs.declared.Refusal.the-variants.{UnsoundRing}
 use Rattle.batch.specs.Good.{every}
-use Rattle.batch.proofs.Good.{by-test}
+use Rattle.numbers.proofs.Splits.{by-test}
 use Rattle.network.specs.declared.Ring.{Ring}
 use Rattle.network.specs.Network.{Network, Phase, resting, asking, ready, answering, noChannel, channelNo, channel, channelCount}
 use Rattle.network.specs.Sound.{sound}

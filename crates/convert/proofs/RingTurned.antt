@@ -15,7 +15,7 @@ use borrow.Author.Tests.{leb-true, ltb-true, ltb-false}
 use Rattle.refusal.specs.declared.Refusal.the-variants.{UnsoundRing}
 use Rattle.batch.specs.declared.BatchRecord.{BatchRecord}
 use Rattle.batch.specs.Good.{every}
-use Rattle.batch.proofs.Good.{by-test}
+use Rattle.numbers.proofs.Splits.{by-test}
 use Rattle.batch.specs.Sending.{inTenths}
 use Rattle.wire.specs.Bytes.{number, signed, Bytes}
 use Rattle.wire.specs.Record.{recordLength, recordBytes, recordIn}

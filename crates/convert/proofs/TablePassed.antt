@@ -8,7 +8,7 @@ use Rattle.refusal.specs.declared.Verdict.{Verdict}
 use Rattle.refusal.specs.declared.Verdict.the-variants.{Passed, Refused}
 use Rattle.batch.specs.Good.{every, unless}
 use Rattle.batch.specs.Sending.{inTenths, tenfold}
-use Rattle.batch.proofs.Good.{by-test}
+use Rattle.numbers.proofs.Splits.{by-test}
 use Rattle.lent.specs.Slices.{foldRows}
 use Rattle.history.specs.declared.Row.{Row}
 use Rattle.history.specs.Table.{soundTable}

@@ -13,7 +13,7 @@ use Rattle.refusal.specs.declared.Verdict.the-variants.{Passed}
 use Rattle.refusal.proofs.Verdicts.{hasPassed}
 use Rattle.batch.specs.Good.{every}
 use Rattle.batch.specs.Sending.{tenfold}
-use Rattle.batch.proofs.Good.{by-test}
+use Rattle.numbers.proofs.Splits.{by-test}
 use Rattle.batch.proofs.Temperatures.{below-zero}
 use Rattle.history.specs.declared.Row.{Row}
 use Rattle.history.specs.Table.{emptyRow, soundTable, batchesIn, placeOf, hasRow, readingsIn}

@@ -10,7 +10,7 @@ use lib.IntN.{ℤ, pos, negsuc, subℕ, _+ℤ_}
 use lib.ListN.{length, getD, take, drop}
 use lib.Signed.{mag, ltZ}
 use lib.Seq.{drop-cons, drop-length, length-take-le, getD-take}
-use Rattle.batch.proofs.Good.{by-test}
+use Rattle.numbers.proofs.Splits.{by-test}
 use Rattle.history.specs.declared.Figures.{Figures}
 use Rattle.history.specs.declared.Figures.the-variants.{Of}
 use Rattle.history.specs.History.{lowest, highest, sum, figuresOf}

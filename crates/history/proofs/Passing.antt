@@ -19,7 +19,8 @@ use Rattle.refusal.specs.declared.Verdict.the-variants.{Passed, Refused}
 use Rattle.batch.specs.declared.BatchNo.{BatchNo}
 use Rattle.batch.specs.declared.BatchRecord.{BatchRecord}
 use Rattle.batch.specs.Good.{every, isZero, unless, verdictOf}
-use Rattle.batch.proofs.Good.{by-test, good-exactly, good-number}
+use Rattle.batch.proofs.Good.{good-exactly, good-number}
+use Rattle.numbers.proofs.Splits.{by-test}
 use Rattle.lent.specs.Slices.{foldRows}
 use Rattle.history.specs.declared.Decision.{Decision}
 use Rattle.history.specs.declared.Figures.the-variants.{Refused as NotAnswered}

@@ -17,7 +17,8 @@ use Rattle.refusal.specs.declared.Verdict.{Verdict}
 use Rattle.refusal.specs.declared.Verdict.the-variants.{Passed, Refused}
 use Rattle.batch.specs.declared.BatchRecord.{BatchRecord}
 use Rattle.batch.specs.Good.{every, isZero, inRange, unless, verdictOf}
-use Rattle.batch.proofs.Good.{by-test, good-exactly, good-number, good-clauses, temp-tested}
+use Rattle.batch.proofs.Good.{good-exactly, good-number, good-clauses, temp-tested}
+use Rattle.numbers.proofs.Splits.{by-test}
 use Rattle.history.specs.declared.Row.{Row}
 use Rattle.history.specs.Table.{rowLimit, readingLimit, rowWith, emptyRow, emptyTable, isNought, countGood, soundRow, batchesIn, placeOf, holds, noneTwice, soundTable, hasRow, rowOf, hasEmpty, readingsOf, readingsIn}
 use Rattle.history.specs.History.{Result, note, close, figures, refused, done, judged, lastOf, joined, home, figuresOf}

@@ -24,7 +24,7 @@ use Rattle.network.specs.declared.Ring.{Ring}
 use Rattle.network.specs.Layout.{ringLimits, view, hold, freshRing, soundRing, heldOutcome, callRing}
 use Rattle.network.specs.Demand.{checkedCall, RefusesUnsound, Safe, InTime, UnderWay, Demand3}
 use Rattle.network.proofs.Ground.Splits.{by-test, by-less}
-use Rattle.network.proofs.Theory.State.{Net, Sound, Did}
+use Rattle.network.proofs.Theory.State.{Net, Sound, Did, matched-moving}
 use Rattle.network.proofs.Lists.Tables.{netOf, stateOf}
 use Rattle.network.proofs.Lists.Clauses.{Started, facts, sound-started}
 use Rattle.network.proofs.Lists.Outcomes.{After, not-done, was-done, Silent}
@@ -38,12 +38,6 @@ use Rattle.network.proofs.Theory.Order.{pending, in-order-step}
 use Rattle.network.proofs.Memory.Held.{Fits, view-hold, hold-fresh, view-fresh, sound-fits, sound-ring, sound-hold}
 use Rattle.network.proofs.Promises.Machine.{seenBy, Machine, carried-over}
 use Rattle.network.proofs.Promises.Run.{Stays, Falls, every-run, run-order}
-
-matched-moves : (f : Phase) (o : Option BatchRecord) (x : BatchRecord) → matchedIn f o ≡ some x → moving f ≡ true
-matched-moves resting o x e = absurd (Option·none-ne-some x e)
-matched-moves asking o x e = refl
-matched-moves ready o x e = absurd (Option·none-ne-some x e)
-matched-moves (answering y) o x e = refl
 
 module _ (L : Limits) (N : Net) (m : ChannelNo) (x : BatchRecord) (lm : m .0 < N .c) where
   -- x is under way on channel m of a sound started ring with the plan N, and the measure of its place is v
@@ -114,7 +108,7 @@ module _ (L : Limits) (N : Net) (m : ChannelNo) (x : BatchRecord) (lm : m .0 < N
   accepted-next {σ} u =
       let s = u .started in
       let below : m .0 < channelCount σ = subst (λ M. m .0 < M .c) (sym (u .same-net)) lm in
-      let on : moving (channel σ m .phase) ≡ true = matched-moves (channel σ m .phase) (channel σ m .offer) x (u .match) in
+      let on : moving (channel σ m .phase) ≡ true = matched-moving (channel σ m .phase) (channel σ m .offer) x (u .match) in
       let r = no-stall (netOf σ) (stateOf σ) (m .0) (s .tables) below on in (
         nodeNo (r .0),
         ⊎-elim (λ g. rw (enter-accepted L σ s (nodeNo (r .0)) (r .1) g))
