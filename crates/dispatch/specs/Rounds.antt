@@ -10,7 +10,7 @@ use lib.ListN.{getD}
 use Rattle.network.specs.declared.Ring.{Ring}
 use Rattle.network.specs.Counting.{allBelow}
 use Rattle.network.specs.Runs.{Call, run}
-use Rattle.network.specs.Layout.{channelRoom, view, soundRing, callRing}
+use Rattle.network.specs.Layout.{channelRoom, view, soundRing, callRing, askingCode, answeringCode}
 use Rattle.network.specs.Dispatch.{onRing, deliveries, handedOut, afterDispatch}
 use Rattle.network.specs.Dispatcher.{dispatchRing, answerOf}
 use Rattle.dispatch.specs.declared.HeadRun.{HeadRun}
@@ -29,7 +29,7 @@ pub record CallsMade (calls : List Call) (ring : Ring) (log : Log) (next : Ring)
 
 -- a channel of this phase has its message on the ring; and none of the first channels has
 abbrev pub isMoving : ℕ → Bool
-isMoving phase = eqb phase 1 || eqb phase 3
+isMoving phase = eqb phase askingCode || eqb phase answeringCode
 
 unfoldable pub noneMoving : List ℕ → ℕ → Bool
 noneMoving phases count = allBelow count (λ k. not (isMoving (getD phases k 0)))

@@ -8,7 +8,7 @@ use mathlib.Core.Option.{some}
 use lib.Dec.{leb}
 use lib.ListN.{length, getD, drop}
 use Rattle.hops.specs.Hops.{hopsBetween}
-use Rattle.network.specs.Layout.{nodeRoom, rowLength, cellRoom}
+use Rattle.network.specs.Layout.{nodeRoom, rowLength, cellRoom, restingCode, askingCode, readyCode, answeringCode}
 use Rattle.messages.specs.RowPass.{inBuffer, inLine, markAll}
 
 abbrev pub Blank : List ℕ → Type 0
@@ -27,10 +27,10 @@ pub record UnderWay (n entry target place : ℕ) : Type 0 where
 
 -- the place of a channel's message, by its phase
 pub record Stands (n phase sender receiver place : ℕ) : Type 0 where
-  pub resting : phase ≡ 0 → place ≡ 0
-  pub asking : phase ≡ 1 → UnderWay n receiver sender place
-  pub ready : phase ≡ 2 → place ≡ 0
-  pub answering : 3 ≤ phase → UnderWay n sender receiver place
+  pub resting : phase ≡ restingCode → place ≡ 0
+  pub asking : phase ≡ askingCode → UnderWay n receiver sender place
+  pub ready : phase ≡ readyCode → place ≡ 0
+  pub answering : answeringCode ≤ phase → UnderWay n sender receiver place
 
 pub record MessagesFit (n c : ℕ) (used waiting phases senders receivers slots lines : List ℕ) : Type 0 where
   pub slots-whole : length slots ≡ cellRoom

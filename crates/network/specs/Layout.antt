@@ -62,15 +62,29 @@ cellsOf ks = map (λ (k : ChannelNo). suc (k .0)) ks
 abbrev pub queueOf : ℕ → List ℕ → List ChannelNo
 queueOf used cells = map (λ cell. channelNo (pred cell)) (take used cells)
 
+-- the numbers of the phases
+abbrev pub restingCode : ℕ
+restingCode = 0
+
+abbrev pub askingCode : ℕ
+askingCode = 1
+
+abbrev pub readyCode : ℕ
+readyCode = 2
+
+abbrev pub answeringCode : ℕ
+answeringCode = 3
+
 -- the numbers that stand for a phase, with the record that is carried
 abbrev pub phaseCode : Phase → ℕ
-phaseCode resting = 0
-phaseCode asking = 1
-phaseCode ready = 2
-phaseCode (answering x) = 3
+phaseCode resting = restingCode
+phaseCode asking = askingCode
+phaseCode ready = readyCode
+phaseCode (answering x) = answeringCode
 
 abbrev pub phaseOf : ℕ → BatchRecord → Phase
-phaseOf code carried = cond (eqb code 0) resting (cond (eqb code 1) asking (cond (eqb code 2) ready (answering carried)))
+phaseOf code carried =
+    cond (eqb code restingCode) resting (cond (eqb code askingCode) asking (cond (eqb code readyCode) ready (answering carried)))
 
 -- the number that stands for an offer, with the record that is offered
 abbrev pub offeredFlag : Option BatchRecord → ℕ

@@ -8,7 +8,7 @@ use lib.ListN.{getD}
 use Rattle.hops.specs.Hops.{hopsBetween}
 use Rattle.network.specs.declared.Head.{Head}
 use Rattle.network.specs.Counting.{one, sum}
-use Rattle.network.specs.Layout.{nodeRoom, channelRoom, rowLength}
+use Rattle.network.specs.Layout.{nodeRoom, channelRoom, rowLength, restingCode, askingCode, readyCode}
 use Rattle.updates.specs.Flat.{usedAt, senderAt, receiverAt, phaseAt}
 
 -- the counts of the head are within the arrays, and those of its nodes within their rows
@@ -38,14 +38,14 @@ wayIn h slots k entry q = hopsBetween (h .«node_count») (placeIn h slots (k + 
 -- hops left, by the number of the phase
 abbrev pub hopsIn : Head → List ℕ → ℕ → ℕ
 hopsIn h slots k =
-    cond (eqb (phaseAt h k) 0) 0
-    (cond (eqb (phaseAt h k) 2) (backIn h k)
-    (cond (eqb (phaseAt h k) 1) (wayIn h slots k (receiverAt h k) (senderAt h k) + backIn h k)
+    cond (eqb (phaseAt h k) restingCode) 0
+    (cond (eqb (phaseAt h k) readyCode) (backIn h k)
+    (cond (eqb (phaseAt h k) askingCode) (wayIn h slots k (receiverAt h k) (senderAt h k) + backIn h k)
     (wayIn h slots k (senderAt h k) (receiverAt h k))))
 
 -- channel k waits at node p, as a bit, by the numbers of its receiver and its phase
 abbrev pub waitsBy : ℕ → ℕ → ℕ → ℕ
-waitsBy p receiver phase = one (eqb receiver p && not (eqb phase 0))
+waitsBy p receiver phase = one (eqb receiver p && not (eqb phase restingCode))
 
 abbrev pub waitsAt : Head → ℕ → ℕ → ℕ
 waitsAt h p k = waitsBy p (receiverAt h k) (phaseAt h k)

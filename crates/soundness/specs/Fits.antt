@@ -12,7 +12,7 @@ use Rattle.batch.specs.Good.{goodRecord}
 use Rattle.wire.specs.Record.{recordLength, recordBytes, recordIn}
 use Rattle.network.specs.declared.Ring.{Ring}
 use Rattle.network.specs.Counting.{one, sum}
-use Rattle.network.specs.Layout.{ringLimits, nodeRoom, channelRoom, recordRoom, row, padded}
+use Rattle.network.specs.Layout.{ringLimits, nodeRoom, channelRoom, recordRoom, row, padded, restingCode, readyCode, answeringCode}
 use Rattle.messages.specs.Messages.{Blank, MessagesFit}
 
 -- the counts are in range, and the byte of no use is zero
@@ -44,10 +44,10 @@ NodeFits in-use started slots used waiting mark =
 
 -- A channel, by its two nodes and the codes of its phase and its offer.
 pub record PhaseFits (started : Bool) (phase offered : ℕ) : Type 0 where
-  pub phase-known : phase ≤ 3
+  pub phase-known : phase ≤ answeringCode
   pub offer-flag : offered ≤ 1
-  pub ready-bare : phase ≡ 2 → offered ≡ 0
-  pub before-start : started ≡ false → (phase ≡ 0) × (offered ≡ 0)
+  pub ready-bare : phase ≡ readyCode → offered ≡ 0
+  pub before-start : started ≡ false → (phase ≡ restingCode) × (offered ≡ 0)
 
 pub record UsedChannel (started : Bool) (n sender receiver phase offered : ℕ) : Type 0 where
   pub sender-below : sender < n
@@ -67,7 +67,7 @@ pub record RecordsFit (c : ℕ) (phases offered offers carried : List ℕ) : Typ
   pub offers-whole : length offers ≡ recordRoom
   pub carried-whole : length carried ≡ recordRoom
   pub offer-fits : (k : ℕ) → k < c → BytesFit (eqb (getD offered k 0) 1) (row recordLength offers k)
-  pub carried-fits : (k : ℕ) → k < c → BytesFit (eqb (getD phases k 0) 3) (row recordLength carried k)
+  pub carried-fits : (k : ℕ) → k < c → BytesFit (eqb (getD phases k 0) answeringCode) (row recordLength carried k)
   pub offers-beyond : Blank (drop (recordLength * c) offers)
   pub carried-beyond : Blank (drop (recordLength * c) carried)
 

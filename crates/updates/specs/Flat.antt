@@ -12,7 +12,7 @@ use Rattle.wire.specs.Record.{recordLength, recordBytes}
 use Rattle.network.specs.declared.Head.{Head}
 use Rattle.network.specs.declared.Ring.{Ring}
 use Rattle.network.specs.Sound.{oneMore}
-use Rattle.network.specs.Layout.{row, rowLength, withNodes, withChannels, withDeliveries, ringIn}
+use Rattle.network.specs.Layout.{row, rowLength, withNodes, withChannels, withDeliveries, ringIn, restingCode, askingCode, answeringCode}
 
 -- rows
 
@@ -126,10 +126,10 @@ abbrev pub unoffered : Ring → ℕ → Ring
 unoffered r k = ringIn (offeredHead (r .head) k 0) (r .slots) (r .lines) (recorded (r .offers) k noRecord) (r .carried)
 
 abbrev pub answered : Ring → ℕ → BatchRecord → Ring
-answered r k x = ringIn (phasedHead (r .head) k 3) (r .slots) (r .lines) (r .offers) (recorded (r .carried) k x)
+answered r k x = ringIn (phasedHead (r .head) k answeringCode) (r .slots) (r .lines) (r .offers) (recorded (r .carried) k x)
 
 abbrev pub rested : Ring → ℕ → Ring
-rested r k = ringIn (phasedHead (r .head) k 0) (r .slots) (r .lines) (r .offers) (recorded (r .carried) k noRecord)
+rested r k = ringIn (phasedHead (r .head) k restingCode) (r .slots) (r .lines) (r .offers) (recorded (r .carried) k noRecord)
 
 -- answering, with the response in the sender node's line
 abbrev pub responded : Ring → ℕ → BatchRecord → Ring
@@ -143,4 +143,4 @@ handedOut r k =
 
 -- the node that takes the message of a channel that is asking or answering: its sender or its receiver, by the number of the phase
 abbrev pub targetBy : ℕ → ℕ → ℕ → ℕ
-targetBy phase sender receiver = cond (eqb phase 1) sender receiver
+targetBy phase sender receiver = cond (eqb phase askingCode) sender receiver

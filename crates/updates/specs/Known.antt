@@ -9,7 +9,7 @@ use Rattle.batch.specs.declared.BatchRecord.{BatchRecord}
 use Rattle.hops.specs.Hops.{next}
 use Rattle.network.specs.declared.Head.{Head}
 use Rattle.network.specs.declared.Ring.{Ring}
-use Rattle.network.specs.Layout.{nodeRoom, channelRoom, rowLength, soundRing}
+use Rattle.network.specs.Layout.{nodeRoom, channelRoom, rowLength, soundRing, askingCode, answeringCode}
 use Rattle.updates.specs.Flat.{appended, recorded, usedAt, waitingAt, senderAt, receiverAt, phaseAt, joinedHead, phasedHead, targetBy}
 
 -- the line of node p has room for one more
@@ -36,7 +36,7 @@ pub record CanRespond (h : Head) (k : ℕ) : Type 0 where
 
 -- a response was made: the channel is answering, the record is carried, and the response stands last in the sender node's line
 pub record Responded (h : Head) (lines carried : List ℕ) (k : ℕ) (x : BatchRecord) (h′ : Head) (lines′ carried′ : List ℕ) : Type 0 where
-  pub head-is : h′ ≡ joinedHead (phasedHead h k 3) (senderAt h k)
+  pub head-is : h′ ≡ joinedHead (phasedHead h k answeringCode) (senderAt h k)
   pub lines-are : lines′ ≡ appended lines (senderAt h k) (waitingAt h (senderAt h k)) (k + 1)
   pub carried-are : carried′ ≡ recorded carried k x
 
@@ -69,12 +69,12 @@ pub record Leaves (ring : Ring) (p cell : ℕ) : Type 0 where
 -- what becomes of it at the next node: a request taken, a response delivered, or anything else
 pub record Takes (ring : Ring) (p cell : ℕ) : Type 0 where
   pub leaves : Leaves ring p cell
-  pub asks : phaseAt (ring .head) (cell - 1) ≡ 1
+  pub asks : phaseAt (ring .head) (cell - 1) ≡ askingCode
   pub arrives : senderAt (ring .head) (cell - 1) ≡ next (ring .head .«node_count») p
 
 pub record Delivers (ring : Ring) (p cell : ℕ) : Type 0 where
   pub leaves : Leaves ring p cell
-  pub answers : phaseAt (ring .head) (cell - 1) ≢ 1
+  pub answers : phaseAt (ring .head) (cell - 1) ≢ askingCode
   pub arrives : receiverAt (ring .head) (cell - 1) ≡ next (ring .head .«node_count») p
 
 pub record Passes (ring : Ring) (p q cell : ℕ) : Type 0 where
