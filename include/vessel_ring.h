@@ -54,7 +54,7 @@ extern "C" {
 #define VESSEL_HISTORY_ROWS 128 /* of a history, no more and no fewer */
 #define VESSEL_READINGS 24      /* of a row of it */
 #define VESSEL_LINE_ROOM 160    /* room for any line of a listing */
-#define VESSEL_STACK 18432         /* 13,600 bytes were measured in the dispatcher, 11,400 in the listing, 7,150 in a move, 5,600 in any other */
+#define VESSEL_STACK 18432         /* measured: the dispatcher 13,600, the listing 11,400, a move 7,150, any other call on a ring 5,600; the others were not */
 #define VESSEL_STACK_TURNING 32768 /* 23,300 */
 
 /* The refusals. Document 01 has the order in which each call tests them; docs/REFUSALS.md has it as a table. */
