@@ -30,8 +30,8 @@ static void plain(unsigned code, uint8_t refusal)
 /* Notes a record in the history and says what is known of its batch then. */
 static void note(struct vessel_record record)
 {
-    uint8_t refusal = vessel_history_note(history, VESSEL_ROWS(history), record);
-    struct vessel_figures figures = vessel_history_figures(history, VESSEL_ROWS(history), record.batch);
+    uint8_t refusal = vessel_history_note(history, VESSEL_HISTORY_ROWS, record);
+    struct vessel_figures figures = vessel_history_figures(history, VESSEL_HISTORY_ROWS, record.batch);
     printf("  noted %u: batch %u lowest %d highest %d sum %d\n", refusal, record.batch, figures.lowest, figures.highest, figures.sum);
 }
 
@@ -68,7 +68,7 @@ static void ask(uint8_t channel)
    always enough; a controller that has other work to do gives fewer, and calls again later. */
 static void dispatch(void)
 {
-    uint16_t enough = vessel_rounds_enough(&ring);
+    uint16_t enough = (uint16_t)(ring.channel_count * (2 * ring.node_count + 2));
     struct vessel_dispatched answer = vessel_ring_dispatch(&ring, enough);
     int i;
     printf("dispatched %u: %u of %u rounds, %u delivery\n", answer.refusal, answer.rounds, enough, answer.count);
@@ -105,19 +105,6 @@ static void damaged(void)
     printf(", the ring %s\n", memcmp(&copy, &before, sizeof copy) == 0 ? "as it was" : "CHANGED");
 }
 
-/* The batches of the history, row by row, each with the mean of its readings. */
-static void batches(void)
-{
-    unsigned row;
-    for (row = 0; row < VESSEL_HISTORY_ROWS; row++) {
-        uint32_t batch = vessel_history_batch(history, VESSEL_HISTORY_ROWS, row).batch;
-        if (batch != 0) {
-            struct vessel_figures figures = vessel_history_figures(history, VESSEL_HISTORY_ROWS, batch);
-            printf("row %u: batch %u, %u readings, mean %d\n", row, batch, figures.count, figures.sum / figures.count);
-        }
-    }
-}
-
 /* A reading in a row of no batch: every call refuses the table and leaves it as it is. */
 static void damaged_history(void)
 {
@@ -131,7 +118,6 @@ static void damaged_history(void)
     printf(" %u", vessel_history_note(copy, VESSEL_HISTORY_ROWS, none));
     printf(" %u", vessel_history_close(copy, VESSEL_HISTORY_ROWS, 7));
     printf(" %u", vessel_history_figures(copy, VESSEL_HISTORY_ROWS, 7).refusal);
-    printf(" %u", vessel_history_batch(copy, VESSEL_HISTORY_ROWS, 0).refusal);
     printf(", the history %s\n", memcmp(copy, before, sizeof copy) == 0 ? "as it was" : "CHANGED");
 }
 
@@ -165,8 +151,12 @@ static void taped(void)
 int main(void)
 {
     struct vessel_record record;
-    if (vessel_version() != VESSEL_VERSION || vessel_record_make(&record, 7, 3, 612, "A1") != VESSEL_DONE) /* tenths, as on document 01's tape */
-        return 1;
+    memset(&record, 0, sizeof record);
+    record.batch = 7;
+    record.vessel = 3;
+    record.temperature = 612; /* tenths, as on the tape of document 01 */
+    record.name_length = 2;
+    memcpy(record.name, "A1", 2);
 
     ring = vessel_ring_fresh();
     plain(0x10, vessel_ring_add_node(&ring, 1));
@@ -186,7 +176,6 @@ int main(void)
     vessel_ring_send(&ring, 0, record);
     vessel_ring_receive(&ring, 0);
     dispatch();
-    batches();
     damaged();
     damaged_history();
     taped();

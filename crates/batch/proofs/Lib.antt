@@ -4,7 +4,5 @@ pub mod Name
 pub mod Signed
 pub mod Good
 pub mod Temperatures
-pub mod Said
 pub mod Blank
 pub mod Same
-pub mod Buffer

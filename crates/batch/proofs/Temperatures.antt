@@ -22,7 +22,7 @@ use Rattle.batch.specs.declared.sending.Scale.{Scale}
 use Rattle.batch.specs.declared.sending.Sent.{Sent}
 use Rattle.batch.specs.declared.sending.Scale.TheVariants.{Tenths, Hundredths}
 use Rattle.batch.specs.Good.{in_range, batch_good, temp_good, name_length_good, name_good, widths_good, blank_ends, verdict_of, send_verdict}
-use Rattle.batch.specs.Sending.{in_tenths, tenfold, in_scale, as_hundredths, taken, made, OneRange, Means12, MadeOfTenths, MadeOfHundredths}
+use Rattle.batch.specs.Sending.{in_tenths, tenfold, in_scale, as_hundredths, made, OneRange, Means12, MadeOfTenths, MadeOfHundredths}
 use Rattle.batch.specs.Sending.{record_with, record_from, sent_as, sent_from}
 use Rattle.batch.proofs.Good.{batch-zero, batch-not-zero, temp-tested, verdict-batch, verdict-temp, sent-bad}
 use Rattle.numbers.proofs.Splits.{by-test}
@@ -76,7 +76,7 @@ taken_in (Temperature t) = true
 taken_in (Refused r) = false
 
 abbrev degrees_in : Made → ℤ
-degrees_in (Temperature t) = t.0
+degrees_in (Temperature t) = t
 degrees_in (Refused r) = pos 0
 
 abbrev refusal_in : Made → Refusal
@@ -88,7 +88,7 @@ module _ (s : Scale) (x : ℤ) where
   unfolding made
   made-refused e = rw e
 
-  pub made-taken : in_scale s x ≡ true → made s x ≡ taken (as_hundredths s x)
+  pub made-taken : in_scale s x ≡ true → made s x ≡ Temperature (as_hundredths s x)
   unfolding made
   made-taken e = rw e
 
@@ -98,15 +98,11 @@ module _ (s : Scale) (x : ℤ) where
       (λ t. absurd (false≢true (sym (ap taken_in (sym (made-taken t) ∙ e)))))
       (λ f. (f, ap refusal_in (sym (made-refused f) ∙ e)))
 
-  pub told-taken : (t : ℤ) → made s x ≡ taken t → as_hundredths s x ≡ t
+  pub told-taken : (t : ℤ) → made s x ≡ Temperature t → as_hundredths s x ≡ t
   told-taken t e =
       by-test (in_scale s x)
       (λ y. ap degrees_in (sym (made-taken y) ∙ e))
       (λ f. absurd (false≢true (ap taken_in (sym (made-refused f) ∙ e))))
-
--- tenths in their range are made as the hundredths that they are
-pub tenfold-taken : (x : ℤ) → in_tenths x ≡ true → made Hundredths (tenfold x) ≡ made Tenths x
-tenfold-taken x e = made-taken Hundredths (tenfold x) (sym (one-range-tenths x) ∙ e) ∙ sym (made-taken Tenths x e)
 
 -- ---- what send makes
 module _ (s : Scale) (f : Fields) where
@@ -143,7 +139,7 @@ module _ (s : Scale) (f : Fields) where
       by-verdict (far-is-12 numbered out.0) ∙ ap (λ y. sent_as x (Bad y)) out.1
 
   pub sent-made :
-      (t : ℤ) → made s f.temperature ≡ taken t → sent_from s f ≡ sent_as (record_with f t) (send_verdict (record_with f t))
+      (t : ℤ) → made s f.temperature ≡ Temperature t → sent_from s f ≡ sent_as (record_with f t) (send_verdict (record_with f t))
   sent-made t e =
       by-verdict refl ∙ ap (λ y. sent_as (record_with f y) (send_verdict (record_with f y))) (told-taken s f.temperature t e)
 

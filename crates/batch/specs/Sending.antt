@@ -38,13 +38,9 @@ abbrev pub as_hundredths : Scale → ℤ → ℤ
 as_hundredths Tenths x = tenfold x
 as_hundredths Hundredths x = x
 
--- a temperature that was made of so many hundredths
-abbrev pub taken : ℤ → Made
-taken x = Temperature (record { 0 = x })
-
 -- A record's temperature from a command's: tested in the command's own unit, and only then in hundredths; or 12.
 unfoldable pub made : Scale → ℤ → Made
-made s x = unless (in_scale s x) (Refused TemperatureOutOfRange) (taken (as_hundredths s x))
+made s x = unless (in_scale s x) (Refused TemperatureOutOfRange) (Temperature (as_hundredths s x))
 
 -- the two ranges are one: a command's temperature is taken exactly where a record may have it
 abbrev pub OneRange : Type 0
@@ -106,12 +102,12 @@ abbrev pub MadeOfTenths : Type 0
 MadeOfTenths =
     map (made Tenths)
     (pos 1200 ∷ neg_ℤ (pos 400) ∷ pos 0 ∷ pos 612 ∷ pos 1201 ∷ neg_ℤ (pos 401) ∷ pos 3277 ∷ pos 6554 ∷ pos 32767 ∷ neg_ℤ (pos 32768) ∷ [])
-    ≡ taken (pos 12000) ∷ taken (neg_ℤ (pos 4000)) ∷ taken (pos 0) ∷ taken (pos 6120)
+    ≡ Temperature (pos 12000) ∷ Temperature (neg_ℤ (pos 4000)) ∷ Temperature (pos 0) ∷ Temperature (pos 6120)
     ∷ too_far ∷ too_far ∷ too_far ∷ too_far ∷ too_far ∷ too_far ∷ []
 
 abbrev pub MadeOfHundredths : Type 0
 MadeOfHundredths =
     map (made Hundredths)
     (pos 12000 ∷ neg_ℤ (pos 4000) ∷ pos 612 ∷ pos 1201 ∷ neg_ℤ (pos 401) ∷ pos 12001 ∷ neg_ℤ (pos 4001) ∷ pos 32767 ∷ neg_ℤ (pos 32768) ∷ [])
-    ≡ taken (pos 12000) ∷ taken (neg_ℤ (pos 4000)) ∷ taken (pos 612) ∷ taken (pos 1201) ∷ taken (neg_ℤ (pos 401))
+    ≡ Temperature (pos 12000) ∷ Temperature (neg_ℤ (pos 4000)) ∷ Temperature (pos 612) ∷ Temperature (pos 1201) ∷ Temperature (neg_ℤ (pos 401))
     ∷ too_far ∷ too_far ∷ too_far ∷ too_far ∷ []

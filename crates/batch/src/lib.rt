@@ -10,7 +10,6 @@ ghost use Rattle.std.proofs.Math.ListN as ListN;
 ghost use Rattle.refusal.specs.Number.{verdict_number};
 ghost use Rattle.batch.specs.Good.{every, between, in_range, is_zero, is_character, name_limit, name_cells_good, record_of, verdict_of, good_record, blank_at_end, send_verdict};
 ghost use Rattle.batch.specs.Blank.{no_record};
-ghost use Rattle.batch.specs.Said.{record_said, send_said};
 ghost use Rattle.batch.specs.Same.{same_batch};
 
 use refusal::{Refusal, Verdict};
@@ -158,7 +157,7 @@ fn judge_fields(number: u32, vessel: u8, temperature: i16, name_length: u8, name
 // The first refusal that applies to a record, and document 01's number for it.
 pub fn judge(record: BatchRecord) -> Verdict
     ensures value { result ≡ verdict_of «record» }
-    ensures result_value { verdict_number result ≡ record_said «record» }
+    ensures result_value { verdict_number result ≡ verdict_number (verdict_of «record») }
 {
     let number = record.batch.0;
     let temperature = record.temperature;
@@ -188,7 +187,7 @@ fn blank_at_end(length: u8, name: &[u8]) -> bool
 // The first refusal that applies to a record in a send: what is asked of every record, and then of the ends of its name.
 pub fn judge_sent(record: BatchRecord) -> Verdict
     ensures value { result ≡ send_verdict «record» }
-    ensures result_value { verdict_number result ≡ send_said «record» }
+    ensures result_value { verdict_number result ≡ verdict_number (send_verdict «record») }
 {
     let verdict = judge(record);
     if let Verdict::Refused(refusal) = verdict {

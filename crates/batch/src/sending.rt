@@ -1,12 +1,10 @@
 // What a send command gives, and the record that is made of it. The command says in which unit its temperature is; a record's is in
-// hundredths, so it is made here, in one function, and nowhere else: what is made is a `Hundredths`, whose number only this file can set,
-// and nothing else is put into the record of a command's fields.
-ghost use Rattle.std.specs.Prelude.{◌≡◌, true};
+// hundredths, so it is made here, in one function, and nowhere else.
+ghost use Rattle.std.specs.Prelude.{◌≡◌};
 ghost use Rattle.refusal.specs.declared.Verdict.TheVariants.{Refused};
 ghost use Rattle.batch.specs.Blank.{no_record};
-ghost use Rattle.batch.specs.Good.{temp_good, send_verdict};
-ghost use Rattle.batch.specs.declared.sending.Scale.TheVariants as scale;
-ghost use Rattle.batch.specs.Said.{said_in_made, made_said, HundredthsOr12};
+ghost use Rattle.batch.specs.Good.{send_verdict};
+ghost use Rattle.batch.specs.declared.sending.Scale.TheVariants.{Tenths};
 ghost use Rattle.batch.specs.Sending.{in_tenths, made, record_with, fields_of, no_fields, sent_as, sent_from};
 
 use crate::{BatchNo, BatchRecord, between, in_range, judge_sent};
@@ -30,14 +28,10 @@ pub struct Fields {
     pub name: [u8; 32],
 }
 
-// A record's temperature that was made from a command's: hundredths, in a record's range.
-#[derive(Drop)]
-pub struct Hundredths(i16);
-
-// What is made of a command's temperature: hundredths, or 12.
+// A record's temperature made from a command's, in hundredths, or 12.
 #[derive(Drop)]
 pub enum Made {
-    Temperature(Hundredths),
+    Temperature(i16),
     Refused(Refusal),
 }
 
@@ -46,15 +40,6 @@ pub enum Made {
 pub struct Sent {
     pub verdict: Verdict,
     pub record: BatchRecord,
-}
-
-impl Hundredths {
-    // How many hundredths they are.
-    pub fn number(self) -> i16
-        ensures { result ≡ self.0 }
-    {
-        self.0
-    }
 }
 
 impl Fields {
@@ -78,37 +63,29 @@ pub fn in_tenths(value: i16) -> bool
     between(Fields::COLDEST_TENTHS, Fields::HOTTEST_TENTHS, value)
 }
 
-// The one place where a record's temperature is made.
-fn from_hundredths(value: i16) -> Made
-    ensures { result ≡ made scale.Hundredths value }
-{
-    if !in_range(value) {
-        return Made::Refused(Refusal::TemperatureOutOfRange);
-    }
-    let temperature = Hundredths(value);
-    Made::Temperature(temperature)
-}
-
 // Tenths are tested as tenths: ten times as many of them, from 3,277 on, do not fit 16 bits.
 fn from_tenths(value: i16) -> Made
-    ensures { result ≡ made scale.Tenths value }
+    ensures { result ≡ made Tenths value }
 {
     if !in_tenths(value) {
         return Made::Refused(Refusal::TemperatureOutOfRange);
     }
     let hundredths = value * 10;
-    from_hundredths(hundredths)
+    Made::Temperature(hundredths)
 }
 
 // A record's temperature from a command's.
-pub fn to_hundredths(scale: Scale, value: i16) -> Made
-    ensures value { result ≡ made scale value }
-    ensures result_value { said_in_made result ≡ made_said scale value }
-    ensures hundredths_or12 { HundredthsOr12 result }
+pub fn hundredths(scale: Scale, value: i16) -> Made
+    ensures { result ≡ made scale value }
 {
     match scale {
         Scale::Tenths => from_tenths(value),
-        Scale::Hundredths => from_hundredths(value),
+        Scale::Hundredths => {
+            if !in_range(value) {
+                return Made::Refused(Refusal::TemperatureOutOfRange);
+            }
+            Made::Temperature(value)
+        }
     }
 }
 
@@ -136,16 +113,16 @@ fn unsent(refusal: Refusal) -> Sent
     }
 }
 
-// The record of a command's fields, with the temperature that was made of theirs.
-fn record_with(fields: Fields, temperature: Hundredths) -> BatchRecord
-    ensures { result ≡ record_with fields temperature.0 }
+// The record of a command's fields with this temperature, in hundredths.
+pub fn record_with(fields: Fields, temperature: i16) -> BatchRecord
+    ensures { result ≡ record_with fields temperature }
 {
     let batch = fields.batch;
     let name = fields.name;
     BatchRecord {
         batch,
         vessel: fields.vessel,
-        temperature: temperature.0,
+        temperature,
         name_length: fields.name_length,
         name,
     }
@@ -166,13 +143,12 @@ fn judged(record: BatchRecord) -> Sent
 
 // What send makes of a command's fields: 11, then 12 for the temperature in its own unit, then the rest of what send asks.
 pub fn make(scale: Scale, fields: Fields) -> Sent
-    ensures value { result ≡ sent_from scale fields }
-    ensures record_value { temp_good result.«record» ≡ true }
+    ensures { result ≡ sent_from scale fields }
 {
     if fields.batch.0 == 0 {
         return unsent(Refusal::BatchNumberZero);
     }
-    match to_hundredths(scale, fields.temperature) {
+    match hundredths(scale, fields.temperature) {
         Made::Refused(refusal) => unsent(refusal),
         Made::Temperature(temperature) => judged(record_with(fields, temperature)),
     }

@@ -1,3 +1,1 @@
--- The theorems on C's commands and on the library; the proofs of the functions stand by their functions.
-pub mod RoundTrip
-pub mod Library
+-- No law of this crate is shared: its proofs stand by their functions.

@@ -3,9 +3,7 @@ use Rattle.std.specs.Prelude.{ℕ}
 use Rattle.std.specs.Int.Count.{ones}
 use Rattle.refusal.specs.Number.{number_of}
 use Rattle.network.specs.declared.Answer.{Answer}
-use Rattle.network.specs.declared.Answer.TheVariants.{Done, Delivered, Refused}
-use Rattle.network.specs.declared.Finding.{Finding}
-use Rattle.network.specs.declared.Finding.TheVariants as finding
+use Rattle.network.specs.declared.Answer.TheVariants.{Done, Delivered, Hops, Waiting, Refused}
 use Rattle.network.specs.declared.Reply.{Reply}
 use Rattle.network.specs.declared.Ring.{Ring}
 use Rattle.network.specs.declared.Dispatched.{Dispatched}
@@ -16,17 +14,18 @@ use Rattle.c_structs.specs.declared.Delivery.{Delivery}
 use Rattle.c_structs.specs.declared.HopsLeft.{HopsLeft}
 use Rattle.c_structs.specs.declared.Waiting as C
 use Rattle.c_structs.specs.declared.AnswerNumbers.{AnswerNumbers}
-use Rattle.c_structs.specs.declared.FoundNumbers.{FoundNumbers}
 use Rattle.c_structs.specs.declared.Rounds.{Rounds}
 
-abbrev pub numbers : ℕ → ℕ → ℕ → AnswerNumbers
-numbers n d k = record { refusal = n; delivered = d; channel = k }
+abbrev pub numbers : ℕ → ℕ → ℕ → ℕ → ℕ → AnswerNumbers
+numbers n d k h w = record { refusal = n; delivered = d; channel = k; hops = h; set = w }
 
 -- all that an answer can say; what it does not say is 0
 abbrev pub numbers_in : Answer → AnswerNumbers
-numbers_in Done = numbers 0 0 0
-numbers_in (Delivered k) = numbers 0 1 k.0
-numbers_in (Refused r) = numbers (number_of r) 0 0
+numbers_in Done = numbers 0 0 0 0 0
+numbers_in (Delivered k) = numbers 0 1 k.0 0 0
+numbers_in (Hops h) = numbers 0 0 0 h 0
+numbers_in (Waiting w) = numbers 0 0 0 0 w
+numbers_in (Refused r) = numbers (number_of r) 0 0 0 0
 
 -- the refusal's number, or 0
 abbrev pub number_to : Call → Ring → ℕ
@@ -56,18 +55,9 @@ rounds_in d = record {
 abbrev pub rounds_to : ℕ → Ring → Rounds
 rounds_to given ring = rounds_in (answer_of (dispatch_ring given ring))
 
--- and all that is found for a question
-abbrev pub found : ℕ → ℕ → ℕ → FoundNumbers
-found n h w = record { refusal = n; hops = h; set = w }
-
-abbrev pub found_in : Finding → FoundNumbers
-found_in (finding.Hops h) = found 0 h 0
-found_in (finding.Waiting w) = found 0 0 w
-found_in (finding.Refused r) = found (number_of r) 0 0
-
-abbrev pub hops_left_in : Finding → HopsLeft
-hops_left_in f = record { refusal = (found_in f).refusal; hops = (found_in f).hops }
+abbrev pub hops_left_in : Answer → HopsLeft
+hops_left_in a = record { refusal = (numbers_in a).refusal; hops = (numbers_in a).hops }
 
 -- how many tasks of a node wait is the number of ones in its set
-abbrev pub waiting_in : Finding → C.Waiting
-waiting_in f = record { set = (found_in f).set; tasks = ones (found_in f).set; refusal = (found_in f).refusal }
+abbrev pub waiting_in : Answer → C.Waiting
+waiting_in a = record { set = (numbers_in a).set; tasks = ones (numbers_in a).set; refusal = (numbers_in a).refusal }

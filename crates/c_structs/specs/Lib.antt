@@ -1,5 +1,3 @@
 pub mod Answers
 pub mod Commands
-pub mod RoundTrip
 pub mod Tables
-pub mod Library

@@ -11,12 +11,12 @@ ghost use Rattle.command.specs.declared.Question.TheVariants as question;
 ghost use Rattle.command.specs.Bare.{bare_of};
 ghost use Rattle.network.specs.Counting.{one};
 ghost use Rattle.network.specs.Network.{node_no, channel_no};
-ghost use Rattle.c_structs.specs.Answers.{numbers_in, numbers, delivery_in, rounds_in, found, found_in, hops_left_in, waiting_in};
+ghost use Rattle.c_structs.specs.Answers.{numbers_in, numbers, delivery_in, rounds_in, hops_left_in, waiting_in};
 
 use batch::BatchRecord;
 use batch::sending::{Fields, Scale};
 use command;
-use network::{Answer, Dispatched, Finding, Reply};
+use network::{Answer, Dispatched, Reply};
 use numbers::{ChannelNo, NodeNo};
 
 // What a move answers. `delivered` is 1 where it delivered; elsewhere the channel and the record are zero.
@@ -57,7 +57,7 @@ pub struct Waiting {
     pub refusal: u8,
 }
 
-// The figures of a batch, of `count` readings. `held` is 1 where the table has a row of it; elsewhere the figures and the count are zero.
+// The figures of a batch. `held` is 1 where the table has a row of it; elsewhere the three figures are zero.
 #[repr(C)]
 #[derive(Drop)]
 pub struct BatchFigures {
@@ -66,15 +66,6 @@ pub struct BatchFigures {
     pub highest: i16,
     pub refusal: u8,
     pub held: u8,
-    pub count: u16,
-}
-
-// The batch of a row; zero where there is none.
-#[repr(C)]
-#[derive(Drop)]
-pub struct RowBatch {
-    pub batch: u32,
-    pub refusal: u8,
 }
 
 // A command of the tape: its command byte, its operands of one byte, and the fields of a send; zeros where it has none.
@@ -111,15 +102,19 @@ struct AnswerNumbers {
     refusal: u8,
     delivered: u8,
     channel: u8,
+    hops: u8,
+    set: u64,
 }
 
-fn numbers(refusal: u8, delivered: u8, channel: u8) -> AnswerNumbers
-    ensures { result ≡ numbers refusal delivered channel }
+fn numbers(refusal: u8, delivered: u8, channel: u8, hops: u8, set: u64) -> AnswerNumbers
+    ensures { result ≡ numbers refusal delivered channel hops set }
 {
     AnswerNumbers {
         refusal,
         delivered,
         channel,
+        hops,
+        set,
     }
 }
 
@@ -127,9 +122,11 @@ fn numbers_in(answer: Answer) -> AnswerNumbers
     ensures { result ≡ numbers_in answer }
 {
     match answer {
-        Answer::Done => numbers(0, 0, 0),
-        Answer::Delivered(channel) => numbers(0, 1, channel.0),
-        Answer::Refused(refusal) => numbers(refusal.number(), 0, 0),
+        Answer::Done => numbers(0, 0, 0, 0, 0),
+        Answer::Delivered(channel) => numbers(0, 1, channel.0, 0, 0),
+        Answer::Hops(hops) => numbers(0, 0, 0, hops, 0),
+        Answer::Waiting(set) => numbers(0, 0, 0, 0, set),
+        Answer::Refused(refusal) => numbers(refusal.number(), 0, 0, 0, 0),
     }
 }
 
@@ -172,44 +169,20 @@ pub fn rounds_in(dispatched: Dispatched) -> Rounds
     }
 }
 
-// The same of what is found for a question.
-#[derive(Drop)]
-struct FoundNumbers {
-    refusal: u8,
-    hops: u8,
-    set: u64,
-}
-
-fn found(refusal: u8, hops: u8, set: u64) -> FoundNumbers
-    ensures { result ≡ found refusal hops set }
+pub fn hops_in(answer: Answer) -> HopsLeft
+    ensures { result ≡ hops_left_in answer }
 {
-    FoundNumbers { refusal, hops, set }
-}
-
-fn found_in(finding: Finding) -> FoundNumbers
-    ensures { result ≡ found_in finding }
-{
-    match finding {
-        Finding::Hops(hops) => found(0, hops, 0),
-        Finding::Waiting(set) => found(0, 0, set),
-        Finding::Refused(refusal) => found(refusal.number(), 0, 0),
-    }
-}
-
-pub fn hops_in(finding: Finding) -> HopsLeft
-    ensures { result ≡ hops_left_in finding }
-{
-    let said = found_in(finding);
+    let said = numbers_in(answer);
     HopsLeft {
         refusal: said.refusal,
         hops: said.hops,
     }
 }
 
-pub fn waiting_in(finding: Finding) -> Waiting
-    ensures { result ≡ waiting_in finding }
+pub fn waiting_in(answer: Answer) -> Waiting
+    ensures { result ≡ waiting_in answer }
 {
-    let said = found_in(finding);
+    let said = numbers_in(answer);
     let tasks = questions::waiting_tasks(said.set);
     Waiting {
         set: said.set,

@@ -1,11 +1,10 @@
 // What the calls on a history table take and answer, between C's form and the history's.
 ghost use Rattle.std.specs.Prelude.{◌≡◌};
-ghost use Rattle.history.specs.Said.{none_told};
-ghost use Rattle.c_structs.specs.Tables.{batch_no, figures_struct, figures_in, batch_in};
+ghost use Rattle.c_structs.specs.Tables.{batch_no, no_figures, figures_in};
 
-use crate::{BatchFigures, RowBatch, flag};
+use crate::BatchFigures;
 use batch::BatchNo;
-use history::{Figures, InRow};
+use history::Figures;
 
 pub fn batch_no(number: u32) -> BatchNo
     ensures { result ≡ batch_no number }
@@ -14,7 +13,7 @@ pub fn batch_no(number: u32) -> BatchNo
 }
 
 fn no_figures(refusal: u8) -> BatchFigures
-    ensures { result ≡ figures_struct (none_told refusal) }
+    ensures { result ≡ no_figures refusal }
 {
     BatchFigures {
         sum: 0,
@@ -22,7 +21,6 @@ fn no_figures(refusal: u8) -> BatchFigures
         highest: 0,
         refusal,
         held: 0,
-        count: 0,
     }
 }
 
@@ -36,28 +34,8 @@ pub fn figures_in(figures: Figures) -> BatchFigures
             lowest: summary.lowest,
             highest: summary.highest,
             refusal: 0,
-            held: flag(0 < summary.count),
-            count: summary.count,
+            held: 1,
         },
         Figures::Refused(refusal) => no_figures(refusal.number()),
-    }
-}
-
-pub fn batch_in(row: InRow) -> RowBatch
-    ensures { result ≡ batch_in row }
-{
-    match row {
-        InRow::None => RowBatch {
-            batch: 0,
-            refusal: 0,
-        },
-        InRow::Batch(batch) => RowBatch {
-            batch: batch.0,
-            refusal: 0,
-        },
-        InRow::Refused(refusal) => RowBatch {
-            batch: 0,
-            refusal: refusal.number(),
-        },
     }
 }

@@ -7,7 +7,7 @@ ghost use Rattle.network.specs.Dispatcher.{dispatch_step};
 ghost use Rattle.network.specs.Layout.{step_ring, answer_to};
 
 use command::{Command, Question};
-use network::{DispatchStep, Finding, Ring, Step};
+use network::{Answer, DispatchStep, Ring, Step};
 
 pub fn perform(ring: Ring, command: Command) -> Step
     ensures { result ≡ step_ring (call_of command) ring }
@@ -37,7 +37,7 @@ pub fn perform(ring: Ring, command: Command) -> Step
     Step { ring, reply }
 }
 
-pub fn ask(ring: Ring, question: Question) -> Finding
+pub fn ask(ring: Ring, question: Question) -> Answer
     ensures { result ≡ answer_to (question_call question) ring }
 {
     let head = ring.head;

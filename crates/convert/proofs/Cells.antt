@@ -14,7 +14,7 @@ use Rattle.convert.specs.TablePass.{turned_cell}
 
 -- what is made of a cell, or the cell
 abbrev pub made_or : Made → ℤ → ℤ
-made_or (Temperature t) x = t.0
+made_or (Temperature t) x = t
 made_or (Refused r) x = x
 
 pub turned-is : (x : ℤ) → made_or (made Tenths x) x ≡ turned_cell x

@@ -88,7 +88,7 @@ sum-tenfold (y ∷ ys) x = ap (λ z. sum z (map tenfold ys)) (sym (tenfold-sum x
 
 figures-tenfold : (xs : List ℤ) → figures_of (map tenfold xs) ≡ tenfold_figures (figures_of xs)
 figures-tenfold [] = refl
-figures-tenfold (x ∷ xs) = rw (lowest-tenfold xs x, highest-tenfold xs x, sum-tenfold xs x, length-map xs tenfold)
+figures-tenfold (x ∷ xs) = rw (lowest-tenfold xs x, highest-tenfold xs x, sum-tenfold xs x)
 
 -- ---- rows: batches and counts are the same, so each batch has its row where it had it
 same-batches : (t : List Row) → batches_in (tenfold_table t) ≡ batches_in t

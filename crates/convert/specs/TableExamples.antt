@@ -21,7 +21,7 @@ cold_row = row 7 2 (neg_ℤ (pos 400) ∷ pos 5 ∷ zeros 22)
 
 pub record Turned : Type 0 where
   pub cold-row : turn_table (with3 cold_row) ≡ done (with3 (row 7 2 (neg_ℤ (pos 4000) ∷ pos 50 ∷ zeros 22)))
-  pub cold-told : figures 7 (turn_table (with3 cold_row)).table ≡ tells 2 (neg_ℤ (pos 4000)) (pos 50) (neg_ℤ (pos 3950))
+  pub cold-told : figures 7 (turn_table (with3 cold_row)).table ≡ tells (neg_ℤ (pos 4000)) (pos 50) (neg_ℤ (pos 3950))
   pub hottest : turn_table (with3 (row 7 1 (pos 1200 ∷ zeros 23))) ≡ done (with3 (row 7 1 (pos 12000 ∷ zeros 23)))
   pub to-the-last : turn_table (with3 (rising 1)) ≡ done (with3 (rising 10))
   pub every-row : turn_table (one_each 1) ≡ done (one_each 10)

@@ -41,7 +41,7 @@ TurnedSound = (t : List Row) → (turn_table t).verdict ≡ Passed → sound_tab
 -- each figure of every batch that is told then is ten times as many as that of the readings before, and a batch that had none has none
 abbrev pub tenfold_figures : Figures → Figures
 tenfold_figures None = None
-tenfold_figures (Of f) = Of (record { lowest = tenfold f.lowest; highest = tenfold f.highest; sum = tenfold f.sum; count = f.count })
+tenfold_figures (Of f) = Of (record { lowest = tenfold f.lowest; highest = tenfold f.highest; sum = tenfold f.sum })
 tenfold_figures (NotAnswered r) = NotAnswered r
 
 abbrev pub FiguresTenfold : Type 0

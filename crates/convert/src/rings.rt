@@ -15,11 +15,12 @@ use network::{Answer, Records, Reply, Ring, Step};
 use refusal::Refusal;
 
 // A record in hundredths.
-fn turned_record(mut record: BatchRecord) -> BatchRecord
+fn turned_record(record: BatchRecord) -> BatchRecord
     ensures { result ≡ turned_record «record» }
 {
-    record.temperature = turned_cell(record.temperature);
-    record
+    let temperature = turned_cell(record.temperature);
+    let fields = sending::fields_of(record);
+    sending::record_with(fields, temperature)
 }
 
 // Turns the records of all channels, and answers whether every temperature was one in tenths.

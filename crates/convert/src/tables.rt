@@ -9,7 +9,7 @@ ghost use Rattle.convert.specs.TurnedTable.{turn_table};
 ghost use Rattle.convert.specs.TablePass.{turned_cell, turned_row, pass_begun, pass_seen, decided, row_after};
 
 use batch::BatchNo;
-use batch::sending::{Made, Scale, in_tenths, to_hundredths};
+use batch::sending::{Made, Scale, hundredths, in_tenths};
 use history::{Row, Search, sound};
 use refusal::{Refusal, Verdict};
 
@@ -28,8 +28,8 @@ struct Pass {
 pub fn turned_cell(cell: i16) -> i16
     ensures { result ≡ turned_cell cell }
 {
-    match to_hundredths(Scale::Tenths, cell) {
-        Made::Temperature(temperature) => temperature.number(),
+    match hundredths(Scale::Tenths, cell) {
+        Made::Temperature(temperature) => temperature,
         Made::Refused(_) => cell,
     }
 }

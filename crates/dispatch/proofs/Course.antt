@@ -16,15 +16,15 @@ use Rattle.network.specs.declared.Ring.{Ring}
 use Rattle.network.specs.declared.Answer.TheVariants.{Done}
 use Rattle.network.specs.declared.Answer.TheVariants as Answer
 use Rattle.network.specs.Counting.{times}
-use Rattle.network.specs.Network.{node_no, count_of_nodes, still}
+use Rattle.network.specs.Network.{node_no, count_of_nodes}
 use Rattle.network.specs.Runs.{Call, run}
 use Rattle.network.specs.Layout.{ring_limits, view, sound_ring, call_ring}
-use Rattle.network.specs.Dispatch.{round, deliveries, after_dispatch, handed_out, rounds_made, spelled, not_run, ran}
+use Rattle.network.specs.Dispatch.{round, still, deliveries, after_dispatch, handed_out, rounds_made, spelled, not_run, ran}
 use Rattle.network.specs.Dispatcher.{dispatch_ring, answer_of}
 use Rattle.network.proofs.Ground.Splits.{by-test}
 use Rattle.network.proofs.Lists.Clauses.{sound-started}
 use Rattle.network.proofs.Memory.Held.{sound-ring}
-use Rattle.network.proofs.Promises.Acts.{going-round}
+use Rattle.network.proofs.Promises.Dispatch.{going-round}
 use Rattle.updates.specs.declared.opening.Subject.TheVariants.{Node}
 use Rattle.updates.specs.Openings.{after_start, opening_of}
 use Rattle.updates.proofs.Openings.{running, begun-is}

@@ -18,18 +18,18 @@ use Rattle.network.specs.Network.{Network, node_no, node, is_node, with_node}
 use Rattle.network.specs.Calls.{Outcome, refused, accepted, unless, done, has_slot, enter_first}
 use Rattle.network.specs.Calls
 use Rattle.network.specs.Answers.{delivered_in, step_of}
-use Rattle.network.specs.Runs.{Call, enter, move, is_traffic, after, run}
+use Rattle.network.specs.Runs.{Call, enter, move, after, run}
 use Rattle.network.specs.Layout.{node_room, channel_room, view, sound_ring, held_outcome, call_ring}
 use Rattle.network.specs.Dispatch.{round, listed, handed_by, deliveries}
 use Rattle.network.proofs.Memory.Held.{sound-ring}
-use Rattle.network.proofs.Promises.Acts.{Going, none-go, go, run-append, deliveries-append}
-use Rattle.network.proofs.Promises.Answers.{handed-in}
-use Rattle.network.proofs.Promises.Tried.{Tried, tried, on-ring-most}
+use Rattle.network.proofs.Promises.Acts.{run-append, deliveries-append}
+use Rattle.network.proofs.Promises.Dispatch.{Going, none-go, go}
+use Rattle.network.proofs.Promises.Tried.{goes, Tried, tried, on-ring-most}
 use Rattle.updates.specs.Known.{AtNode}
 use Rattle.updates.proofs.Openings.{running}
 use Rattle.dispatch.specs.Log.{Log, logged_all}
 use Rattle.dispatch.specs.Rounds.{CanGo, CallsMade}
-use Rattle.dispatch.proofs.Log.{logged-more, logged-count}
+use Rattle.dispatch.proofs.Log.{logged-more, logged-count, handed-in}
 
 pub can-begin : (ring : Ring) → sound_ring ring ≡ true → ring.head.started ≢ 0 → CanGo ring 0
 can-begin ring ok going = record { ok = ok; going = going; room = omega (arith, on-ring-most ring ok) }
@@ -42,7 +42,7 @@ few-nodes {ring} h = let s = sound-ring ring h.ok in omega (arith, s.holds.node-
 
 -- one entry or move: the ring that it leaves, and the deliveries with it
 
-module _ {ring : Ring} {count : ℕ} (h : CanGo ring count) (a : Call) (g : is_traffic a ≡ true) where
+module _ {ring : Ring} {count : ℕ} (h : CanGo ring count) (a : Call) (g : goes a ≡ true) where
   abbrev next : Ring
   next = after ring (call_ring a ring)
 

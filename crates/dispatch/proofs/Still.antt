@@ -10,8 +10,9 @@ use native.Mathlib.Numerals.{add-one}
 use borrow.Author.Tests.{ne_eqb}
 use Rattle.network.specs.declared.Ring.{Ring}
 use Rattle.network.specs.Counting.{one, sum, all_below}
-use Rattle.network.specs.Network.{Phase, resting, asking, ready, answering, channel_no, count_of_channels, channel, moving, still}
+use Rattle.network.specs.Network.{Phase, resting, asking, ready, answering, channel_no, count_of_channels, channel, moving}
 use Rattle.network.specs.Layout.{channel_room, phase_code, view, sound_ring}
+use Rattle.network.specs.Dispatch.{still}
 use Rattle.network.proofs.Ground.Splits.{by-test, and_both, both_ways}
 use Rattle.network.proofs.Ground.Tests.{all-below}
 use Rattle.network.proofs.Memory.Held.{sound-ring}

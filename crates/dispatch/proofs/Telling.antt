@@ -16,7 +16,6 @@ use Rattle.wire.specs.Record.{record_length, record_bytes, record_in, RecordFits
 use Rattle.network.specs.declared.Dispatched.{Dispatched}
 use Rattle.network.specs.declared.Ring.{Ring}
 use Rattle.network.specs.Counting.{one, tabulate}
-use Rattle.wire.proofs.Good.{blank-fits}
 use Rattle.network.specs.Network.{count_of_nodes}
 use Rattle.network.specs.Calls.{Delivery, done, delivered, hops_are, waiting_are, Outcome, refused, accepted}
 use Rattle.network.specs.Runs.{Call}
@@ -25,9 +24,9 @@ use Rattle.network.specs.Dispatch.{Dispatch, not_run, ran, after_dispatch, hande
 use Rattle.network.specs.Dispatcher.{dispatch_ring, filled, channels_of, records_of, answered, answer_of, dispatch_step}
 use Rattle.network.proofs.Ground.Splits.{by-test, by_less}
 use Rattle.network.proofs.Ground.Numbers.{map-append}
-use Rattle.network.proofs.Memory.Rows.{tabulate-put, tabulate-same, row-rows, rows-put, put_row}
+use Rattle.network.proofs.Memory.Rows.{get_d-blanks, tabulate-put, tabulate-same, row-rows, rows-put, put_row}
 use Rattle.network.proofs.Memory.Held.{record-kept, sound-ring}
-use Rattle.network.proofs.Promises.Acts.{Going, none-go, go, going-round, going-times}
+use Rattle.network.proofs.Promises.Dispatch.{Going, none-go, go, going-round, going-times}
 use Rattle.updates.specs.Flat.{recorded}
 use Rattle.updates.proofs.Records.{recorded_row}
 use Rattle.dispatch.specs.declared.HeadRun.{HeadRun}
@@ -91,6 +90,18 @@ kept_more ds d fits room =
 -- deliveries whose records fit their types
 abbrev AllFit : List Delivery → Type 0
 AllFit ds = (i : ℕ) → RecordFits (get_or (records_of ds) i no_record)
+
+blank-fits : RecordFits no_record
+unfolding no_record
+blank-fits =
+    record {
+      batch = omega arith;
+      vessel = omega arith;
+      temperature = omega arith;
+      name-length = omega arith;
+      name-width = refl;
+      name = λ i. omega (arith, get_d-blanks {A = ℕ} 32 i 0);
+    }
 
 kept-all : (ds : List Delivery) → AllFit ds → (es : List Delivery) → length es + length ds ≤ channel_room →
     logged_all ds (log_for es) ≡ log_for (es ++ ds)

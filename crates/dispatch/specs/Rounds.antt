@@ -5,8 +5,7 @@ use Rattle.network.specs.declared.Ring.{Ring}
 use Rattle.network.specs.Counting.{all_below}
 use Rattle.network.specs.Runs.{Call, run}
 use Rattle.network.specs.Layout.{channel_room, view, sound_ring, call_ring, asking_code, answering_code}
-use Rattle.network.specs.Network.{on_ring}
-use Rattle.network.specs.Dispatch.{deliveries, handed_out, after_dispatch}
+use Rattle.network.specs.Dispatch.{on_ring, deliveries, handed_out, after_dispatch}
 use Rattle.network.specs.Dispatcher.{dispatch_ring, answer_of}
 use Rattle.dispatch.specs.declared.HeadRun.{HeadRun}
 use Rattle.dispatch.specs.Log.{Log, log_of, logged_all}

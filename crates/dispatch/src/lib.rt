@@ -18,7 +18,7 @@ use batch::BatchRecord;
 use network::{Answer, ByChannel, Cells, Dispatched, Head, HeadDispatched, Records, Reply, Ring};
 use numbers::NodeNo;
 use refusal::Verdict;
-use traffic::parts::{enter_at, move_at};
+use traffic::{enter_at, move_at};
 use updates::opening::{Subject, open};
 
 // The head of the ring between two tries, and how many deliveries there were.

@@ -1,4 +1,4 @@
--- The figures of readings, found one reading after another; and how large a sum can be.
+-- The three figures of readings, found one reading after another; and how large a sum can be.
 use mathlib.Core.Path.{◌≡◌, sym, ap, ◌∙◌}
 use mathlib.Core.Bool.{cond}
 use mathlib.Core.List.{List, ◌∷◌}
@@ -15,9 +15,9 @@ use Rattle.history.specs.declared.Figures.{Figures}
 use Rattle.history.specs.declared.Figures.TheVariants.{Of}
 use Rattle.history.specs.History.{lowest, highest, sum, figures_of}
 
--- the figures of k readings of which some were found, and xs are to come
-abbrev pub told_from : ℕ → (l h s : ℤ) → List ℤ → Figures
-told_from k l h s xs = Of (record { lowest = lowest l xs; highest = highest h xs; sum = sum s xs; count = k })
+-- the figures of readings of which some were found, and xs are to come
+abbrev pub told_from : (l h s : ℤ) → List ℤ → Figures
+told_from l h s xs = Of (record { lowest = lowest l xs; highest = highest h xs; sum = sum s xs })
 
 module _ (cells : List ℤ) (n : ℕ) (held : n ≤ length cells) where
   abbrev xs : List ℤ
@@ -26,24 +26,22 @@ module _ (cells : List ℤ) (n : ℕ) (held : n ≤ length cells) where
   long : length xs ≡ n
   long = length-take-le n cells held
 
-  pub told-start : 1 ≤ n → figures_of xs ≡ (let x = get_or cells 0 (pos 0) in told_from n x x x (drop 1 xs))
+  pub told-start : 1 ≤ n → figures_of xs ≡ (let x = get_or cells 0 (pos 0) in told_from x x x (drop 1 xs))
   told-start some =
       let x : ℤ = get_or xs 0 (pos 0) in
-      let apart : xs ≡ x ∷ drop 1 xs = drop-cons xs 0 (pos 0) (omega (arith, long)) in
-      ap figures_of apart
-      ∙ ap (λ (k : ℕ). told_from k x x x (drop 1 xs)) (sym (ap length apart) ∙ long)
-      ∙ ap (λ (z : ℤ). told_from n z z z (drop 1 xs)) (get_or-take n cells 0 (pos 0) (omega arith))
+      ap figures_of (drop-cons xs 0 (pos 0) (omega (arith, long)))
+      ∙ ap (λ (z : ℤ). told_from z z z (drop 1 xs)) (get_or-take n cells 0 (pos 0) (omega arith))
 
   pub told_more : (l h s : ℤ) (i : ℕ) → i < n →
-      told_from n l h s (drop i xs)
-      ≡ (let x = get_or cells i (pos 0) in told_from n (cond (lt_z x l) x l) (cond (lt_z h x) x h) (s +ℤ x) (drop (i + 1) xs))
+      told_from l h s (drop i xs)
+      ≡ (let x = get_or cells i (pos 0) in told_from (cond (lt_z x l) x l) (cond (lt_z h x) x h) (s +ℤ x) (drop (i + 1) xs))
   told_more l h s i inside =
       rw (add-one i)
-      (ap (told_from n l h s) (drop-cons xs i (pos 0) (omega (arith, long)))
-      ∙ ap (λ (x : ℤ). told_from n l h s (x ∷ drop (suc i) xs)) (get_or-take n cells i (pos 0) inside))
+      (ap (told_from l h s) (drop-cons xs i (pos 0) (omega (arith, long)))
+      ∙ ap (λ (x : ℤ). told_from l h s (x ∷ drop (suc i) xs)) (get_or-take n cells i (pos 0) inside))
 
-  pub told-end : (l h s : ℤ) → told_from n l h s (drop n xs) ≡ Of (record { lowest = l; highest = h; sum = s; count = n })
-  told-end l h s = ap (λ (k : ℕ). told_from n l h s (drop k xs)) (sym long) ∙ ap (told_from n l h s) (drop-length xs)
+  pub told-end : (l h s : ℤ) → told_from l h s (drop n xs) ≡ Of (record { lowest = l; highest = h; sum = s })
+  told-end l h s = ap (λ (k : ℕ). told_from l h s (drop k xs)) (sym long) ∙ ap (told_from l h s) (drop-length xs)
 
 -- ---- the size of a sum
 mag-sub : (a b : ℕ) → mag (sub_ℕ a b) ≤ a + b

@@ -1,9 +1,9 @@
 -- Where a number stands first in a list, as a search meets it: from a place on, one element after another.
-use mathlib.Core.Path.{◌≡◌, refl, ◌∙◌}
+use mathlib.Core.Path.{◌≡◌, ◌∙◌}
 use mathlib.Core.Logic.{◌≢◌}
 use mathlib.Core.Bool.{false, not, ◌&&◌, ◌||◌}
 use mathlib.Core.List.{List, [], ◌∷◌}
-use Prim.Native.Nat.{ℕ, zero, suc, ◌+◌, ◌-◌, ◌<◌, ◌≤◌, zero-le}
+use Prim.Native.Nat.{ℕ, ◌+◌, ◌-◌, ◌<◌, ◌≤◌, zero-le}
 use native.Mathlib.Numerals.{add-one}
 use native.Mathlib.Omega.{arith}
 use lib.Dec.{eqb}
@@ -27,12 +27,6 @@ module _ (b : ℕ) (xs : List ℕ) (i : ℕ) (inside : i < length xs) where
 
 pub from-end : (b : ℕ) (xs : List ℕ) → from b xs (length xs) ≡ length xs
 from-end b xs = rw (drop-length xs) (omega arith)
-
--- past the end of a list of batch numbers there is none
-pub past_end : (xs : List ℕ) (i : ℕ) → length xs ≤ i → get_or xs i 0 ≡ 0
-past_end [] i past = refl
-past_end (x ∷ xs) zero past = absurd (omega arith)
-past_end (x ∷ xs) (suc i) past = past_end xs i (omega arith)
 
 -- a place is in the list or is its length
 pub place-within : (b : ℕ) (xs : List ℕ) → place_of b xs ≤ length xs

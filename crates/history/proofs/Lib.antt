@@ -6,6 +6,5 @@ pub mod Figuring
 pub mod Rewritten
 pub mod Passing
 pub mod Running
-pub mod Said
 pub mod Types
 pub mod Worked

@@ -11,8 +11,6 @@ use Rattle.history.specs.contracts.Decision as D
 use Rattle.history.proofs.Decision.TheLaws as D'
 use Rattle.history.specs.contracts.Figures as F
 use Rattle.history.proofs.Figures.TheLaws as F'
-use Rattle.history.specs.contracts.InRow as I
-use Rattle.history.proofs.InRow.TheLaws as I'
 use Rattle.history.specs.contracts.Row as R
 use Rattle.history.proofs.Row.TheLaws as R'
 use Rattle.history.specs.contracts.Search as S
@@ -35,9 +33,6 @@ verdict = enum_kind J.the_type J'.the_laws tt J'.the_plain J'.the_copy
 
 abbrev pub figures : Kind
 figures = enum_kind F.the_type F'.the_laws tt F'.the_plain F'.the_copy
-
-abbrev pub in_row : Kind
-in_row = enum_kind I.the_type I'.the_laws tt I'.the_plain I'.the_copy
 
 abbrev pub row : Elem
 row = elem (struct_kind R.the_type R'.the_laws R'.the_plain R'.the_copy) 56 refl tt

@@ -1,21 +1,19 @@
 -- The worked lists of calls (Examples.antt), computed. Thousands of readings are not: 24 of them make a table that one more leaves as it is.
--- Nor is the test of the table at each of the calls that fill it: a table stays sound.
 use Prim.Native.Nat.{ℕ, zero, suc, ◌+◌, ◌-◌}
 use mathlib.Core.Path.{◌≡◌, refl, sym, ap, ◌∙◌}
-use mathlib.Core.Bool.{true, false, ◌||◌}
-use mathlib.Core.List.{List, [], ◌∷◌, ◌++◌, map}
+use mathlib.Core.Bool.{false}
+use mathlib.Core.List.{List, [], ◌∷◌, ◌++◌}
 use native.Mathlib.Omega.{arith}
 use lib.IntN.{pos}
 use lib.ListN.{replicate, replicate-append-replicate}
-use Rattle.refusal.specs.declared.Refusal.TheVariants.{UnsoundRing, NoEmptyRow}
+use Rattle.refusal.specs.declared.Refusal.TheVariants.{UnsoundRing}
 use Rattle.refusal.specs.Number.{verdict_number}
-use Rattle.batch.specs.Good.{unless, verdict_of, batch_good, temp_good, name_length_good, name_good, widths_good, name_cells_good}
+use Rattle.batch.specs.Good.{verdict_of, batch_good, temp_good, name_length_good, name_good, widths_good, name_cells_good}
 use Rattle.history.specs.declared.Row.{Row}
-use Rattle.history.specs.Table.{empty_row, empty_table, sound_table, sound_row, has_row, has_empty}
-use Rattle.history.specs.History.{Result, refused, judged, with_reading, without_row, note, close, figures, batch_in, done}
+use Rattle.history.specs.Table.{empty_row, empty_table, sound_table, sound_row}
+use Rattle.history.specs.History.{Result, refused, note, close, figures, done}
 use Rattle.history.specs.Runs.{Call, noting, closing, made, table_after}
-use Rattle.history.specs.Examples.{reading, after, verdicts, row, from, tells, hot, full, OneReading, OldestGoes, FiguresFollow, ZerosCount, ThousandsNoted, RangeEdges, Closed, NoRow, FullTable, RecordFirst, RowsTold, Says25, UnsoundTables}
-use Rattle.history.proofs.Running.{stays, empty-sound}
+use Rattle.history.specs.Examples.{reading, after, verdicts, row, tells, hot, OneReading, OldestGoes, FiguresFollow, ZerosCount, ThousandsNoted, RangeEdges, Closed, NoRow, FullTable, RecordFirst, Says25, UnsoundTables}
 
 pub one-reading : OneReading
 unfolding sound_table sound_row note close figures verdict_of batch_good temp_good name_length_good name_good widths_good name_cells_good
@@ -58,53 +56,13 @@ pub no_row : NoRow
 unfolding sound_table sound_row note close figures verdict_of batch_good temp_good name_length_good name_good widths_good name_cells_good
 no_row = record { answered = refl; as_before = refl; zero-told = refl; in_use = refl }
 
--- a call, and the table after a list of calls, without the test of the table
-abbrev untested : Call → List Row → Result
-untested (noting x) t =
-    let b = x.batch.0 in
-    judged (verdict_of x) (λ r. refused r t)
-    (unless (has_row b t || has_empty t) (refused NoEmptyRow t)
-    (done (with_reading b x.temperature t)))
-untested (closing b) t = done (without_row b t)
-
-abbrev untested_after : List Call → List Row → List Row
-untested_after [] t = t
-untested_after (a ∷ calls) t = untested_after calls (untested a t).table
-
--- on a sound table they are the same
-test-passed : (a : Call) (t : List Row) → sound_table t ≡ true → made a t ≡ untested a t
-unfolding note close
-test-passed (noting x) t sound = rw sound refl
-test-passed (closing b) t sound = rw sound refl
-
-tests-passed : (calls : List Call) (t : List Row) → sound_table t ≡ true → table_after calls t ≡ untested_after calls t
-tests-passed [] t sound = refl
-tests-passed (a ∷ calls) t sound =
-    tests-passed calls (made a t).table (stays a t sound)
-    ∙ ap (λ (m : Result). untested_after calls m.table) (test-passed a t sound)
-
--- one reading of each batch from 1 to 128
-abbrev one_each : List Call
-one_each = map (λ b. reading b (pos b)) (from 1 128)
-
-filled-untested : untested_after one_each empty_table ≡ full
-unfolding verdict_of batch_good temp_good name_length_good name_good widths_good name_cells_good
-filled-untested = refl
-
-filled-up : after one_each ≡ full
-filled-up = tests-passed one_each empty_table empty-sound ∙ filled-untested
-
 pub full-table : FullTable
 unfolding sound_table sound_row note close figures verdict_of batch_good temp_good name_length_good name_good widths_good name_cells_good
-full-table = record { filled = filled-up; told = refl; answered = refl; own_row = refl; freed-row = refl }
+full-table = record { filled = refl; told = refl; answered = refl; own_row = refl; freed-row = refl }
 
 pub record-first : RecordFirst
 unfolding sound_table sound_row note close figures verdict_of batch_good temp_good name_length_good name_good widths_good name_cells_good
 record-first = record { answered = refl; as_before = refl }
-
-pub rows_told : RowsTold
-unfolding sound_table sound_row note close batch_in verdict_of batch_good temp_good name_length_good name_good widths_good name_cells_good
-rows_told = record { emptied = refl; in_use = refl; last = refl; past-the-last = refl }
 
 -- a table that is not sound
 module _ {t : List Row} (bad : sound_table t ≡ false) where
@@ -114,8 +72,8 @@ module _ {t : List Row} (bad : sound_table t ≡ false) where
   called-25 (closing b) = rw bad refl
 
   says-25 : Says25 t
-  unfolding figures batch_in
-  says-25 = record { called = called-25; asked = λ b. rw bad refl; looked-up = λ i. rw bad refl }
+  unfolding figures
+  says-25 = record { called = called-25; asked = λ b. rw bad refl }
 
 pub unsound-tables : UnsoundTables
 unfolding sound_table sound_row note close figures verdict_of batch_good temp_good name_length_good name_good widths_good name_cells_good
@@ -183,7 +141,7 @@ hot-stays : made (reading 7 (pos 12000)) hot_table ≡ done hot_table
 unfolding hot_table sound_table sound_row note verdict_of batch_good temp_good name_length_good name_good widths_good name_cells_good
 hot-stays = refl
 
-hot-told : figures 7 hot_table ≡ tells 24 (pos 12000) (pos 12000) (pos 288000)
+hot-told : figures 7 hot_table ≡ tells (pos 12000) (pos 12000) (pos 288000)
 unfolding hot_table sound_table sound_row figures
 hot-told = refl
 
@@ -191,7 +149,7 @@ module _ (n : ℕ) where
   in_two : hot (24 + n) ≡ hot 24 ++ hot n
   in_two = sym (replicate-append-replicate 24 n (reading 7 (pos 12000)))
 
-  told-on : figures 7 (after (hot (24 + n))) ≡ tells 24 (pos 12000) (pos 12000) (pos 288000)
+  told-on : figures 7 (after (hot (24 + n))) ≡ tells (pos 12000) (pos 12000) (pos 288000)
   told-on =
       ap (λ calls. figures 7 (after calls)) in_two
       ∙ ap (figures 7) (table-then (hot 24) (hot n) empty_table ∙ ap (table_after (hot n)) hot-24 ∙ table_stays _ hot_table hot-stays n)

@@ -6,10 +6,9 @@ use Rattle.refusal.specs.Number.{verdict_number}
 use Rattle.batch.specs.Good.{record_of}
 use Rattle.history.specs.declared.Figures.{Figures}
 use Rattle.history.specs.declared.Figures.TheVariants.{None, Of, Refused as NotAnswered}
-use Rattle.history.specs.declared.InRow.TheVariants as stands
 use Rattle.history.specs.declared.Row.{Row}
 use Rattle.history.specs.Table.{empty_row, empty_table}
-use Rattle.history.specs.History.{refused, figures, batch_in}
+use Rattle.history.specs.History.{refused, figures}
 use Rattle.history.specs.Runs.{Call, noting, closing, made, table_after}
 
 -- ---- what the lists are made of
@@ -36,9 +35,9 @@ row b n cells = record { batch = record { 0 = b }; count = n; readings = cells }
 abbrev pub zeros : ℕ → List ℤ
 zeros n = replicate n (pos 0)
 
--- figures by how many readings, lowest, highest and sum
-abbrev pub tells : ℕ → ℤ → ℤ → ℤ → Figures
-tells n low high all = Of (record { lowest = low; highest = high; sum = all; count = n })
+-- figures by lowest, highest and sum
+abbrev pub tells : ℤ → ℤ → ℤ → Figures
+tells low high all = Of (record { lowest = low; highest = high; sum = all })
 
 -- n numbers from k on
 abbrev pub from : ℕ → ℕ → List ℕ
@@ -53,7 +52,7 @@ pub record OneReading : Type 0 where
   pub none_before : figures 7 empty_table ≡ None
   pub answered : verdicts first_reading empty_table ≡ 0 ∷ []
   pub taken : after first_reading ≡ row 7 1 (pos 612 ∷ zeros 23) ∷ replicate 127 (row 0 0 (zeros 24))
-  pub told : figures 7 (after first_reading) ≡ tells 1 (pos 612) (pos 612) (pos 612)
+  pub told : figures 7 (after first_reading) ≡ tells (pos 612) (pos 612) (pos 612)
   pub none-of-another : figures 8 (after first_reading) ≡ None
 
 -- the readings 1 to n
@@ -65,9 +64,9 @@ pub record OldestGoes : Type 0 where
   pub answered : verdicts (rising 25) empty_table ≡ replicate 25 0
   pub row-of-23 : row_at 0 (after (rising 23)) ≡ row 7 23 (map pos (from 1 23) ++ zeros 1)
   pub row-of-24 : row_at 0 (after (rising 24)) ≡ row 7 24 (map pos (from 1 24))
-  pub told-of-24 : figures 7 (after (rising 24)) ≡ tells 24 (pos 1) (pos 24) (pos 300)
+  pub told-of-24 : figures 7 (after (rising 24)) ≡ tells (pos 1) (pos 24) (pos 300)
   pub row-of-25 : row_at 0 (after (rising 25)) ≡ row 7 24 (map pos (from 2 24))
-  pub told-of-25 : figures 7 (after (rising 25)) ≡ tells 24 (pos 2) (pos 25) (pos 324)
+  pub told-of-25 : figures 7 (after (rising 25)) ≡ tells (pos 2) (pos 25) (pos 324)
 
 -- 24 readings whose first is the lowest; and 24 whose first is neither the lowest nor the highest
 abbrev pub cold_first : List Call
@@ -78,15 +77,15 @@ mixed = reading 7 (pos 3) ∷ reading 7 (pos 9) ∷ reading 7 (neg_ℤ (pos 4)) 
 
 pub record FiguresFollow : Type 0 where
   -- the lowest reading is forgotten when it goes
-  pub with-lowest : figures 7 (after cold_first) ≡ tells 24 (neg_ℤ (pos 4000)) (pos 0) (neg_ℤ (pos 4000))
-  pub without : figures 7 (after (cold_first ++ reading 7 (pos 5) ∷ [])) ≡ tells 24 (pos 0) (pos 5) (pos 5)
+  pub with-lowest : figures 7 (after cold_first) ≡ tells (neg_ℤ (pos 4000)) (pos 0) (neg_ℤ (pos 4000))
+  pub without : figures 7 (after (cold_first ++ reading 7 (pos 5) ∷ [])) ≡ tells (pos 0) (pos 5) (pos 5)
   -- the readings stand as they came, and the oldest goes whatever it is
   pub as-they-came : row_at 0 (after mixed) ≡ row 7 24 (pos 3 ∷ pos 9 ∷ neg_ℤ (pos 4) ∷ zeros 21)
-  pub mixed-told : figures 7 (after mixed) ≡ tells 24 (neg_ℤ (pos 4)) (pos 9) (pos 8)
-  pub one_more : figures 7 (after (mixed ++ reading 7 (pos 5) ∷ [])) ≡ tells 24 (neg_ℤ (pos 4)) (pos 9) (pos 10)
+  pub mixed-told : figures 7 (after mixed) ≡ tells (neg_ℤ (pos 4)) (pos 9) (pos 8)
+  pub one_more : figures 7 (after (mixed ++ reading 7 (pos 5) ∷ [])) ≡ tells (neg_ℤ (pos 4)) (pos 9) (pos 10)
   -- figures are of the readings alone: of readings below 0 the highest is below 0
   pub below-zero :
-      figures 7 (after (reading 7 (neg_ℤ (pos 2)) ∷ reading 7 (neg_ℤ (pos 6)) ∷ [])) ≡ tells 2 (neg_ℤ (pos 6)) (neg_ℤ (pos 2)) (neg_ℤ (pos 8))
+      figures 7 (after (reading 7 (neg_ℤ (pos 2)) ∷ reading 7 (neg_ℤ (pos 6)) ∷ [])) ≡ tells (neg_ℤ (pos 6)) (neg_ℤ (pos 2)) (neg_ℤ (pos 8))
 
 -- a reading of zero counts as one
 abbrev pub two_zeros : List Call
@@ -94,15 +93,15 @@ two_zeros = reading 7 (pos 0) ∷ reading 7 (pos 0) ∷ []
 
 pub record ZerosCount : Type 0 where
   pub taken : row_at 0 (after two_zeros) ≡ row 7 2 (zeros 24)
-  pub told : figures 7 (after two_zeros) ≡ tells 2 (pos 0) (pos 0) (pos 0)
+  pub told : figures 7 (after two_zeros) ≡ tells (pos 0) (pos 0) (pos 0)
 
 -- thousands of readings: the same figures after any number of them, from 24 on
 abbrev pub hot : ℕ → List Call
 hot n = replicate n (reading 7 (pos 12000))
 
 pub record ThousandsNoted : Type 0 where
-  pub from-24-on : (n : ℕ) → 24 ≤ n → figures 7 (after (hot n)) ≡ tells 24 (pos 12000) (pos 12000) (pos 288000)
-  pub five-thousand : figures 7 (after (hot 5000)) ≡ tells 24 (pos 12000) (pos 12000) (pos 288000)
+  pub from-24-on : (n : ℕ) → 24 ≤ n → figures 7 (after (hot n)) ≡ tells (pos 12000) (pos 12000) (pos 288000)
+  pub five-thousand : figures 7 (after (hot 5000)) ≡ tells (pos 12000) (pos 12000) (pos 288000)
   pub all-taken : verdicts (hot 5000) empty_table ≡ replicate 5000 0
 
 -- the edges of the range, and just beyond
@@ -129,13 +128,13 @@ pub record Closed : Type 0 where
   -- the lowest empty row is taken, and the other batch keeps its row
   pub replaced : row_at 0 (after first_replaced) ≡ row 9 1 (pos 3 ∷ zeros 23)
   pub other_row : row_at 1 (after first_replaced) ≡ row 8 1 (pos 2 ∷ zeros 23)
-  pub other-told : figures 8 (after first_replaced) ≡ tells 1 (pos 2) (pos 2) (pos 2)
+  pub other-told : figures 8 (after first_replaced) ≡ tells (pos 2) (pos 2) (pos 2)
   -- a batch whose row stands behind an empty one stays there
   pub behind : row_at 1 (after (first_closed ++ reading 8 (pos 5) ∷ [])) ≡ row 8 2 (pos 2 ∷ pos 5 ∷ zeros 22)
   pub still-empty : row_at 0 (after (first_closed ++ reading 8 (pos 5) ∷ [])) ≡ row 0 0 (zeros 24)
   -- a batch that was closed starts anew
   pub anew : row_at 0 (after (first_closed ++ reading 7 (pos 6) ∷ [])) ≡ row 7 1 (pos 6 ∷ zeros 23)
-  pub anew-told : figures 7 (after (first_closed ++ reading 7 (pos 6) ∷ [])) ≡ tells 1 (pos 6) (pos 6) (pos 6)
+  pub anew-told : figures 7 (after (first_closed ++ reading 7 (pos 6) ∷ [])) ≡ tells (pos 6) (pos 6) (pos 6)
 
 -- closing and asking where there is no row
 pub record NoRow : Type 0 where
@@ -153,7 +152,7 @@ on_full = reading 129 (pos 0) ∷ reading 128 (pos 4) ∷ closing 5 ∷ reading 
 
 pub record FullTable : Type 0 where
   pub filled : after (map (λ b. reading b (pos b)) (from 1 128)) ≡ full
-  pub told : figures 64 full ≡ tells 1 (pos 64) (pos 64) (pos 64)
+  pub told : figures 64 full ≡ tells (pos 64) (pos 64) (pos 64)
   -- 29 only where the batch has no row and none is empty
   pub answered : verdicts on_full full ≡ 29 ∷ 0 ∷ 0 ∷ 0 ∷ []
   pub own_row : row_at 127 (table_after on_full full) ≡ row 128 2 (pos 128 ∷ pos 4 ∷ zeros 22)
@@ -183,18 +182,10 @@ pub record BlankEndsNoted : Type 0 where
   pub answered : verdicts blank_ended empty_table ≡ 0 ∷ 0 ∷ []
   pub taken : row_at 0 (after blank_ended) ≡ row 7 2 (pos 612 ∷ pos 613 ∷ zeros 22)
 
--- the batch of each row, and none of a row that is empty or that no table has
-pub record RowsTold : Type 0 where
-  pub emptied : batch_in 0 (after first_closed) ≡ stands.None
-  pub in_use : batch_in 1 (after first_closed) ≡ stands.Batch (record { 0 = 8 })
-  pub last : batch_in 127 full ≡ stands.Batch (record { 0 = 128 })
-  pub past-the-last : batch_in 128 full ≡ stands.None
-
 -- ---- unsound tables: every call is refused with 25 and changes nothing, also where the record is bad or the batch has no row
 pub record Says25 (t : List Row) : Type 0 where
   pub called : (a : Call) → made a t ≡ refused UnsoundRing t
   pub asked : (b : ℕ) → figures b t ≡ NotAnswered UnsoundRing
-  pub looked-up : (i : ℕ) → batch_in i t ≡ stands.Refused UnsoundRing
 
 -- and a sound one, for comparison: a batch that has no row there is closed
 abbrev pub Accepted : List Row → Type 0

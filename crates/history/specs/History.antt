@@ -1,20 +1,18 @@
--- The calls on a history table, as document 02 has them: a record is noted, a batch is closed, the figures of a batch are asked for; and which
--- batch a row is of. Each judges the table first (25); a record is then judged as a ring judges those that it holds (11 to 14, and not 30, which is send's
+-- The three calls on a history table, as document 02 has them: a record is noted, a batch is closed, the figures of a batch are asked for.
+-- Each judges the table first (25); a record is then judged as a ring judges those that it holds (11 to 14, and not 30, which is send's
 -- alone), and 29 comes last.
-use Rattle.std.specs.Prelude.{ℕ, ◌-◌, cond, ◌||◌, List, [], ◌∷◌, ◌++◌, ℤ, ◌+ℤ◌, length, get_or, drop, set}
+use Rattle.std.specs.Prelude.{ℕ, ◌-◌, cond, ◌||◌, List, [], ◌∷◌, ◌++◌, ℤ, ◌+ℤ◌, length, drop, set}
 use Rattle.std.specs.Int.Signed.{lt_z}
 use Rattle.refusal.specs.declared.Refusal.{Refusal}
 use Rattle.refusal.specs.declared.Refusal.TheVariants.{UnsoundRing, NoEmptyRow}
 use Rattle.refusal.specs.declared.Verdict.{Verdict}
 use Rattle.refusal.specs.declared.Verdict.TheVariants.{Passed, Refused}
 use Rattle.batch.specs.declared.BatchRecord.{BatchRecord}
-use Rattle.batch.specs.Good.{is_zero, unless, verdict_of}
+use Rattle.batch.specs.Good.{unless, verdict_of}
 use Rattle.history.specs.declared.Figures.{Figures}
 use Rattle.history.specs.declared.Figures.TheVariants.{None, Of, Refused as NotAnswered}
-use Rattle.history.specs.declared.InRow.{InRow}
-use Rattle.history.specs.declared.InRow.TheVariants as row
 use Rattle.history.specs.declared.Row.{Row}
-use Rattle.history.specs.Table.{reading_limit, row_with, empty_row, batches_in, sound_table, has_row, row_of, has_empty, lowest_empty, readings_in}
+use Rattle.history.specs.Table.{reading_limit, row_with, empty_row, sound_table, has_row, row_of, has_empty, lowest_empty, readings_in}
 
 -- the table after a call, and what the call answered
 pub record Result : Type 0 where
@@ -65,7 +63,7 @@ without_row b t = cond (has_row b t) (set t (row_of b t) empty_row) t
 unfoldable pub close : ℕ → List Row → Result
 close b t = unless (sound_table t) (refused UnsoundRing t) (done (without_row b t))
 
--- ---- figures: the lowest, the highest and the sum of a reading x and those after it, and how many they are
+-- ---- figures: the lowest, the highest and the sum of a reading x and those after it
 abbrev pub lowest : ℤ → List ℤ → ℤ
 lowest x [] = x
 lowest x (y ∷ ys) = lowest (cond (lt_z y x) y x) ys
@@ -80,14 +78,7 @@ sum x (y ∷ ys) = sum (x +ℤ y) ys
 
 abbrev pub figures_of : List ℤ → Figures
 figures_of [] = None
-figures_of (x ∷ xs) = Of (record { lowest = lowest x xs; highest = highest x xs; sum = sum x xs; count = length (x ∷ xs) })
+figures_of (x ∷ xs) = Of (record { lowest = lowest x xs; highest = highest x xs; sum = sum x xs })
 
 unfoldable pub figures : ℕ → List Row → Figures
 figures b t = unless (sound_table t) (NotAnswered UnsoundRing) (figures_of (readings_in b t))
-
--- ---- the batch of row i: none where the row is empty, or the table has no such row
-abbrev pub batch_or_none : ℕ → InRow
-batch_or_none b = cond (is_zero b) row.None (row.Batch (record { 0 = b }))
-
-unfoldable pub batch_in : ℕ → List Row → InRow
-batch_in i t = unless (sound_table t) (row.Refused UnsoundRing) (batch_or_none (get_or (batches_in t) i 0))

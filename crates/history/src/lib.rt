@@ -1,16 +1,14 @@
 // The temperature history of document 02: a table of 128 rows that the controller lends, one row for each batch with its last 24 readings,
-// oldest first. A record is noted, a batch is closed, the figures of a batch are asked for, and which batch a row is of. Every call goes over
-// the table once, judges all of it and finds its row; at most one row is rewritten, and a refusal leaves the table as it was.
-// The calls on the lent table are the last functions here; all they do is by value in the functions before them.
+// oldest first. A record is noted, a batch is closed, and the figures of a batch are asked for. Every call goes over the table once, judges
+// all of it and finds its row; at most one row is rewritten, and a refusal leaves the table as it was.
+// The three calls on the lent table are the last functions here; all they do is by value in the functions before them.
 ghost use Rattle.std.specs.Prelude.{◌≡◌, cond, ◌&&◌, ◌+◌, ◌-◌, ◌≤◌, ◌<◌, [], ◌∷◌, ◌++◌, pos, eqb};
 ghost use Rattle.std.proofs.Math.ListN as ListN;
-ghost use Rattle.refusal.specs.Number.{verdict_number};
 ghost use Rattle.batch.specs.Good.{in_range};
 ghost use Rattle.history.specs.Table.{row_limit, reading_limit, row_with, empty_row, readings_of, is_nought, count_good, cells_good, sound_row, place_of, none_twice};
-ghost use Rattle.history.specs.History.{note, close, figures, joined, figures_of, batch_or_none, batch_in};
+ghost use Rattle.history.specs.History.{note, close, figures, joined, figures_of};
 ghost use Rattle.history.specs.declared.Figures.TheVariants.{Of};
-ghost use Rattle.history.specs.Said.{note_said, close_said, told_in, figures_said, batch_told_in, batch_said};
-ghost use Rattle.history.specs.Search.{begin_at, begin_with, rows_to, seen_at, sound_search, decide, unchanged, home_in, note_good, to_note, to_close, to_tell, to_list};
+ghost use Rattle.history.specs.Search.{begin_at, rows_to, seen_at, sound_search, decide, unchanged, home_in, note_good, to_note, to_close, to_tell};
 
 use batch::{BatchNo, BatchRecord, in_range, judge};
 use refusal::{Refusal, Verdict};
@@ -33,8 +31,6 @@ pub struct Summary {
     pub lowest: i16,
     pub highest: i16,
     pub sum: i32,
-    // Of how many readings.
-    pub count: u16,
 }
 
 // The figures of a batch; none where it has no row.
@@ -42,14 +38,6 @@ pub struct Summary {
 pub enum Figures {
     None,
     Of(Summary),
-    Refused(Refusal),
-}
-
-// The batch of a row; none where the row is empty, or the table has no such row.
-#[derive(Drop)]
-pub enum InRow {
-    None,
-    Batch(BatchNo),
     Refused(Refusal),
 }
 
@@ -385,7 +373,7 @@ fn chosen(take: bool, y: i16, x: i16) -> i16
     if take { y } else { x }
 }
 
-// The figures of the first `n` cells.
+// The three figures of the first `n` cells.
 fn summed(cells: &[i16], n: usize) -> Summary
     requires { (ListN.length cells.now ≡ reading_limit) × (1 ≤ n) × (n ≤ reading_limit) }
     ensures { Of result ≡ figures_of (ListN.take n cells.now) }
@@ -401,12 +389,10 @@ fn summed(cells: &[i16], n: usize) -> Summary
         sum += reading as i32;
         i += 1;
     }
-    let count = n as u16;
     Summary {
         lowest,
         highest,
         sum,
-        count,
     }
 }
 
@@ -435,44 +421,11 @@ fn to_tell(search: Search, batch: BatchNo) -> Figures
     row_figures(found)
 }
 
-// ---- the batch of a row
-
-// The row is not looked for in the pass: the beginning of a question takes all that the question took (Asking.antt of `lent`).
-fn begin_with(row: usize) -> Search
-    ensures { result ≡ begin_with row }
-{
-    begin(BatchNo(0))
-}
-
-fn batch_or_none(batch: u32) -> InRow
-    ensures { result ≡ batch_or_none batch }
-{
-    if batch == 0 {
-        return InRow::None;
-    }
-    InRow::Batch(BatchNo(batch))
-}
-
-fn to_list(search: Search, row: usize) -> InRow
-    ensures { result ≡ to_list search row }
-{
-    if !sound(search) {
-        return InRow::Refused(Refusal::UnsoundRing);
-    }
-    let batches = search.batches;
-    if row < ROWS {
-        return batch_or_none(batches[row]);
-    }
-    InRow::None
-}
-
 // ---- the calls on the lent table. A loop goes over all of it, so that nothing of it is taken on trust.
 
 // A record is noted: its temperature joins the readings of its batch.
 pub fn note(table: &mut [Row], record: BatchRecord) -> Verdict
-    ensures { (table.new ≡ (note «record» table.old).table)
-        × (result ≡ (note «record» table.old).verdict)
-        × (verdict_number result ≡ note_said «record» table.old) }
+    ensures { (table.new ≡ (note «record» table.old).table) × (result ≡ (note «record» table.old).verdict) }
 {
     let mut search = begin_for(record);
     let mut i = 0;
@@ -491,9 +444,7 @@ pub fn note(table: &mut [Row], record: BatchRecord) -> Verdict
 
 // A batch is closed: its whole row becomes zero. One that has no row changes nothing.
 pub fn close(table: &mut [Row], batch: BatchNo) -> Verdict
-    ensures { (table.new ≡ (close batch.0 table.old).table)
-        × (result ≡ (close batch.0 table.old).verdict)
-        × (verdict_number result ≡ close_said table.old) }
+    ensures { (table.new ≡ (close batch.0 table.old).table) × (result ≡ (close batch.0 table.old).verdict) }
 {
     let mut search = begin(batch);
     let mut i = 0;
@@ -510,9 +461,9 @@ pub fn close(table: &mut [Row], batch: BatchNo) -> Verdict
     decision.answer
 }
 
-// The lowest, the highest and the sum of a batch's readings, and how many they are, or none.
+// The lowest, the highest and the sum of a batch's readings, or none.
 pub fn figures_of(table: &[Row], batch: BatchNo) -> Figures
-    ensures { (result ≡ figures batch.0 table.now) × (told_in result ≡ figures_said batch.0 table.now) }
+    ensures { result ≡ figures batch.0 table.now }
 {
     let mut search = begin(batch);
     let mut i = 0;
@@ -521,17 +472,4 @@ pub fn figures_of(table: &[Row], batch: BatchNo) -> Figures
         i += 1;
     }
     to_tell(search, batch)
-}
-
-// The batch of a row, or none.
-pub fn batch_in(table: &[Row], row: usize) -> InRow
-    ensures { (result ≡ batch_in row table.now) × (batch_told_in result ≡ batch_said row table.now) }
-{
-    let mut search = begin_with(row);
-    let mut i = 0;
-    while i < table.len() {
-        search = seen(search, table[i], i);
-        i += 1;
-    }
-    to_list(search, row)
 }

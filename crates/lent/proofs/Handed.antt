@@ -9,13 +9,10 @@ use seplogic.Ra.TreeShare.{full_share}
 use mir.Syntax.{Name, named, Place, place, Opd as Operand, copy, Body as Code, seq, call, Local, local, value_local}
 use base.Logic.{ent, emp, via, emp∗}
 use base.Fml.{Fml, ftrue, fsep, fat, froom, fdies}
-use prog.Model.{Model}
-use prog.Routine.{Routine}
 use prog.Wp.{Tables}
 use types.Logic.{Logic, sem}
 use contract.Lifetimes.{Lfts, Shares, toks}
 use contract.Monad.{top}
-use contract.Running.{Running}
 use types.Kit.{Item, Goal, Post, Sq, Go, runs, lands, allocs, passes, frees, ‵, raw, ◌$◌, ◌∵◌, !, qed, move, drop, use1, fsplit, fsplit3, fjoin, fjoin3, done}
 use sound.WpLaws.{fm_of}
 use types.Run.{Opds, init, forget, and_then, alloc1, pass1, free1}
@@ -27,8 +24,8 @@ use denote.Triple.Statement.{Contract, Triple}
 use denote.Triple.Entry.{Args}
 use denote.Triple.End.{Fins, Outs, outs, all}
 use denote.Triple.Clauses.{Ended, AtExit, at_exit}
-use Rattle.lent.proofs.CalledOn.{CallOn, finals, calling-on, says-more}
-use Rattle.lent.proofs.Handles.{Stated, all_but_last, Facts, facts-of, facts-apart, Handle}
+use Rattle.lent.proofs.CalledOn.{CallOn, finals, calling-on}
+use Rattle.lent.proofs.Handles.{Stated, Facts, facts-of, facts-apart, Handle}
 use Rattle.lent.proofs.Loans.{Loan, many, From, starting, name, life, next, Things, AllAre, AllOwn, Finals, AllFit, AllLeft, AllHad, lent, words-all, things, plains, joined, plains-joined, LentFrom}
 use Rattle.lent.proofs.Params.{Kind, Values, Placed, nowhere, Fine, Good, slots, across, lift, across-lift, words, same-words, reads-by, reads-from}
 
@@ -307,25 +304,6 @@ module _ (i : ℕ) (Ns : List Handle) (os : List Kind) (Z : Kind) (Answer : Stat
       (let y = states Ns i κs (things os n κs (loans Ns) (starting i) a) in
       let v = across n κs os (plains os n κs (loans Ns) (starting i) a) in
       Stated (AllSaid os n κs Ns (starting i) (After y v) z) (r ≡ Answer y v))
-
-  -- and besides what holds of the answer
-  module _ (Also : States Ns → Values os → Z.row.Denot → Type 0) where
-    abbrev ToldAlso : (κs : Lfts n) → Args T.signature κs → Z.row.Denot → AtExit T κs → Type 0
-    ToldAlso κs a r z =
-        (let y = states Ns i κs (things os n κs (loans Ns) (starting i) a) in
-        let v = across n κs os (plains os n κs (loans Ns) (starting i) a) in
-        Stated (AllSaid os n κs Ns (starting i) (After y v) z ++ (r ≡ Answer y v) ∷ []) (Also y v r))
-
-    abbrev pub HandOfAlso : {M : Type 1} {𝓤 : Ura M} (𝓛 : Logic 𝓤) → Contract 𝓤
-    HandOfAlso = CallOn i (loans Ns) os Z ToldAlso
-
-    pub without : {M : Type 1} {𝓤 : Ura M} (𝓛 : Logic 𝓤) (𝓜 : Model 𝓤 𝓛.H) (𝓡 : Running 𝓤 𝓛.H 𝓜) (g : Routine) →
-        Triple 𝓤 (𝓡.run g) (HandOfAlso 𝓛) → Triple 𝓤 (𝓡.run g) (CallOn i (loans Ns) os Z Told 𝓛)
-    without =
-        says-more i (loans Ns) os Z ToldAlso Told (λ κs a r z told.
-        let y = states Ns i κs (things os n κs (loans Ns) (starting i) a) in
-        let v = across n κs os (plains os n κs (loans Ns) (starting i) a) in
-        all_but_last (AllSaid os n κs Ns (starting i) (After y v) z) (r ≡ Answer y v) (Also y v r) told)
 
   abbrev pub HandOf : {M : Type 1} {𝓤 : Ura M} (𝓛 : Logic 𝓤) → Contract 𝓤
   HandOf = CallOn i (loans Ns) os Z Told

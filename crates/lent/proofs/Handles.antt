@@ -85,14 +85,6 @@ facts-of (F ∷ F₁ ∷ []) P p = (p.0, (p.1, p.2))
 facts-of (F ∷ F₁ ∷ F₂ ∷ []) P p = (p.0, (p.1, (p.2, p.3)))
 facts-of (F ∷ F₁ ∷ F₂ ∷ F₃ ∷ Fs) P p = (p.0, (p.1, (p.2, facts-of (F₃ ∷ Fs) P p.3)))
 
--- facts, one more and then another: without the last
-pub all_but_last : (Fs : List (Type 0)) (P Q : Type 0) → Stated (Fs ++ P ∷ []) Q → Stated Fs P
-all_but_last [] P Q p = p.0
-all_but_last (F ∷ []) P Q p = (p.0, p.1)
-all_but_last (F ∷ F₁ ∷ []) P Q p = (p.0, p.1, p.2)
-all_but_last (F ∷ F₁ ∷ F₂ ∷ []) P Q p = (p.0, p.1, p.2, p.3.0)
-all_but_last (F ∷ F₁ ∷ F₂ ∷ F₃ ∷ Fs) P Q p = (p.0, p.1, p.2, all_but_last (F₃ ∷ Fs) P Q p.3)
-
 pub facts-apart : (Fs Gs : List (Type 0)) (P : Type 0) → Facts (Fs ++ Gs) P → Facts Fs (Facts Gs P)
 facts-apart [] Gs P p = p
 facts-apart (F ∷ Fs) Gs P p = (p.0, facts-apart Fs Gs P p.1)

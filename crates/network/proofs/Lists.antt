@@ -9,4 +9,3 @@ pub mod Before
 pub mod Bridge
 pub mod Tries
 pub mod Commute
-pub mod Still

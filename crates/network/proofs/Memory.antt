@@ -2,4 +2,3 @@
 pub mod Rows
 pub mod Held
 pub mod Changes
-pub mod Typed

@@ -7,10 +7,10 @@ pub mod Demand
 pub mod Tried
 pub mod Acts
 pub mod Dispatch
-pub mod DemandActs
 pub mod Answers
-pub mod Dispatcher
 pub mod Promise
+pub mod DemandActs
+pub mod Dispatcher
 pub mod Dummies
 pub mod Edges
 pub mod Withdrawals

@@ -4,7 +4,7 @@ use Rattle.std.specs.Prelude.{ℕ, ◌≡◌, Bool, true, false, cond, List, [],
 use Rattle.std.proofs.Math.Option.{Option}
 use Rattle.refusal.specs.declared.Refusal.{Refusal}
 use Rattle.refusal.specs.declared.Refusal.TheVariants.{UnsoundRing}
-use Rattle.refusal.specs.Number.{number_of, Said}
+use Rattle.refusal.specs.Number.{number_of}
 use Rattle.batch.specs.declared.BatchRecord.{BatchRecord}
 use Rattle.batch.specs.declared.sending.Fields.{Fields}
 use Rattle.batch.specs.Blank.{no_record}
@@ -17,9 +17,7 @@ use Rattle.command.specs.declared.Question.TheVariants.{HopsLeft, WaitingSet}
 use Rattle.numbers.specs.declared.ChannelNo.{ChannelNo}
 use Rattle.network.specs.declared.Ring.{Ring}
 use Rattle.network.specs.declared.Answer.{Answer}
-use Rattle.network.specs.declared.Answer.TheVariants.{Done, Delivered, Refused}
-use Rattle.network.specs.declared.Finding.{Finding}
-use Rattle.network.specs.declared.Finding.TheVariants as found
+use Rattle.network.specs.declared.Answer.TheVariants.{Done, Delivered, Hops, Waiting, Refused}
 use Rattle.network.specs.declared.Reply.{Reply}
 use Rattle.network.specs.declared.Step.{Step}
 use Rattle.network.specs.Calls.{Event, done, delivered, hops_are, waiting_are, Delivery, delivery_in, Outcome, refused, accepted}
@@ -44,37 +42,40 @@ abbrev pub question_call : Question → Call
 question_call (HopsLeft channel) = hops_left channel
 question_call (WaitingSet node) = waiting_set node
 
--- An answer to a command.
-
--- document 01's number for it: that of the refusal, or 0
+-- document 01's number for an answer: that of the refusal, or 0
 abbrev pub number_in : Answer → ℕ
 number_in Done = 0
 number_in (Delivered k) = 0
+number_in (Hops h) = 0
+number_in (Waiting w) = 0
 number_in (Refused r) = number_of r
 
 -- the values of an accepted answer; a refusal answers its number alone
 abbrev pub values_in : Answer → BatchRecord → Event
 values_in Done x = done
 values_in (Delivered k) x = delivered k x
+values_in (Hops h) x = hops_are h
+values_in (Waiting w) x = waiting_are w
 values_in (Refused r) x = done
 
 -- whether an answer is a refusal
 abbrev pub is_refusal : Answer → Bool
 is_refusal Done = false
 is_refusal (Delivered k) = false
+is_refusal (Hops h) = false
+is_refusal (Waiting w) = false
 is_refusal (Refused r) = true
 
 -- the delivery in a reply, if it has one
 abbrev pub delivered_in : Reply → Option Delivery
 delivered_in r = delivery_in (values_in r.answer r.delivered)
 
--- the reply to an outcome: the case of the enum whose number and values are those of the outcome. (No command tells hops or a waiting set:
--- StepsKeep in Layout.)
+-- the reply to an outcome: the case of the enum whose number and values are those of the outcome
 abbrev pub event_reply : Event → Reply
 event_reply done = record { answer = Done; delivered = no_record }
 event_reply (delivered k x) = record { answer = Delivered k; delivered = x }
-event_reply (hops_are h) = record { answer = Done; delivered = no_record }
-event_reply (waiting_are w) = record { answer = Done; delivered = no_record }
+event_reply (hops_are h) = record { answer = Hops h; delivered = no_record }
+event_reply (waiting_are w) = record { answer = Waiting w; delivered = no_record }
 
 abbrev pub reply_of : {S : Type 0} → Outcome S → Reply
 reply_of (refused r) = record { answer = Refused r; delivered = no_record }
@@ -88,48 +89,16 @@ step_of ring o = record { ring = after ring o; reply = reply_of o }
 abbrev pub refusal_in : Answer → Refusal
 refusal_in Done = UnsoundRing
 refusal_in (Delivered k) = UnsoundRing
+refusal_in (Hops h) = UnsoundRing
+refusal_in (Waiting w) = UnsoundRing
 refusal_in (Refused r) = r
 
--- What a reply says with the ring beside it: answered without a refusal number it is accepted, with its values and that ring; else it is
--- refused.
-abbrev pub outcome_in : {S : Type 0} → Reply → S → Outcome S
-outcome_in r s =
-    cond (eqb (number_in r.answer) 0) (accepted (values_in r.answer r.delivered) s) (refused (refusal_in r.answer))
-
+-- What a returned step says: answered without a refusal number it is accepted, with its values and its ring; else it is refused.
 abbrev pub outcome_of : Step → Outcome Ring
-outcome_of s = outcome_in s.reply s.ring
-
--- What is found for a question, in the same way.
-
-abbrev pub found_number : Finding → ℕ
-found_number (found.Hops h) = 0
-found_number (found.Waiting w) = 0
-found_number (found.Refused r) = number_of r
-
-abbrev pub found_values : Finding → Event
-found_values (found.Hops h) = hops_are h
-found_values (found.Waiting w) = waiting_are w
-found_values (found.Refused r) = done
-
-abbrev pub found_refusal : Finding → Refusal
-found_refusal (found.Hops h) = UnsoundRing
-found_refusal (found.Waiting w) = UnsoundRing
-found_refusal (found.Refused r) = r
-
--- (a question tells nothing else: FindingsKeep in Layout)
-abbrev pub event_finding : Event → Finding
-event_finding done = found.Hops 0
-event_finding (delivered k x) = found.Hops 0
-event_finding (hops_are h) = found.Hops h
-event_finding (waiting_are w) = found.Waiting w
-
-abbrev pub finding_of : {S : Type 0} → Outcome S → Finding
-finding_of (refused r) = found.Refused r
-finding_of (accepted e s) = event_finding e
-
--- what a finding says of the ring that was asked, which stays as it is
-abbrev pub found_on : {S : Type 0} → Finding → S → Outcome S
-found_on f s = cond (eqb (found_number f) 0) (accepted (found_values f) s) (refused (found_refusal f))
+outcome_of s =
+    cond (eqb (number_in s.reply.answer) 0)
+    (accepted (values_in s.reply.answer s.reply.delivered) s.ring)
+    (refused (refusal_in s.reply.answer))
 
 -- document 01's number and values for an outcome
 abbrev pub outcome_number : {S : Type 0} → Outcome S → ℕ
@@ -140,32 +109,39 @@ abbrev pub outcome_values : {S : Type 0} → Outcome S → Event
 outcome_values (refused r) = done
 outcome_values (accepted e s) = e
 
--- a reply and a finding say their number and their values
+-- a reply says the number and the values of the outcome that it answers
 abbrev pub RepliesSay : Type 1
 RepliesSay =
-    (S : Type 0) (s : S) (r : Reply) →
-    (outcome_number (outcome_in r s) ≡ number_in r.answer) × (outcome_values (outcome_in r s) ≡ values_in r.answer r.delivered)
+    (S : Type 0) (o : Outcome S) →
+    (number_in (reply_of o).answer ≡ outcome_number o) × (values_in (reply_of o).answer (reply_of o).delivered ≡ outcome_values o)
 
-abbrev pub FindingsSay : Type 1
-FindingsSay =
-    (S : Type 0) (s : S) (f : Finding) →
-    (outcome_number (found_on f s) ≡ found_number f) × (outcome_values (found_on f s) ≡ found_values f)
+-- a step says the number and the values of its reply
+abbrev pub StepsSay : Type 0
+StepsSay =
+    (s : Step) →
+    (outcome_number (outcome_of s) ≡ number_in s.reply.answer)
+    × (outcome_values (outcome_of s) ≡ values_in s.reply.answer s.reply.delivered)
+
+-- the step that a contract promises says the outcome that it is made of
+abbrev pub StepsKeep : Type 0
+StepsKeep = (ring : Ring) (o : Outcome Ring) → outcome_of (step_of ring o) ≡ o
 
 -- what a call says: its number, 0 where it is accepted, and its values
-abbrev pub CallSaid : Type 0
-CallSaid = Said Event
+pub record Said : Type 0 where
+  pub number : ℕ
+  pub values : Event
 
-abbrev pub said_in : {S : Type 0} → Outcome S → CallSaid
-said_in o = record { number = outcome_number o; value = outcome_values o }
+abbrev pub said_in : {S : Type 0} → Outcome S → Said
+said_in o = record { number = outcome_number o; values = outcome_values o }
 
 -- a number and no values, or a delivery
-abbrev pub says : ℕ → CallSaid
-says n = record { number = n; value = done }
+abbrev pub says : ℕ → Said
+says n = record { number = n; values = done }
 
-abbrev pub delivers : ChannelNo → BatchRecord → CallSaid
-delivers k x = record { number = 0; value = delivered k x }
+abbrev pub delivers : ChannelNo → BatchRecord → Said
+delivers k x = record { number = 0; values = delivered k x }
 
 -- what a run answers, call by call
-abbrev pub answers : {A S : Type 0} → (A → S → Outcome S) → List A → S → List CallSaid
+abbrev pub answers : {S : Type 0} → (Call → S → Outcome S) → List Call → S → List Said
 answers step [] s = []
 answers step (a ∷ calls) s = said_in (step a s) ∷ answers step calls (after s (step a s))

@@ -4,12 +4,13 @@ use Rattle.std.specs.Prelude.{ℕ, ◌≤◌, ◌≡◌, ◌⊎◌, true, false,
 use Rattle.refusal.specs.declared.Refusal.TheVariants.{UnsoundRing, NotStarted, NoSuchNode}
 use Rattle.numbers.specs.declared.NodeNo.{NodeNo}
 use Rattle.network.specs.declared.Ring.{Ring}
-use Rattle.network.specs.Network.{Network, count_of_nodes, next_on, node}
+use Rattle.network.specs.declared.Step.{Step}
+use Rattle.network.specs.Network.{Network, count_of_nodes, next_on}
 use Rattle.network.specs.Calls.{Outcome, refused}
 use Rattle.network.specs.Runs.{Call, enter, move, after, run}
 use Rattle.network.specs.Layout.{view, sound_ring, call_ring}
-use Rattle.network.specs.Answers.{call_of, reply_of}
-use Rattle.network.specs.Code.{TypedRing, TypedCommand, Code, MeetsContracts}
+use Rattle.network.specs.Answers.{reply_of}
+use Rattle.network.specs.Promise.{MeetsContracts}
 
 -- an entry or a move, at its node
 pub data Traffic : Type 0 where
@@ -49,15 +50,6 @@ EndsCommute {S} seen step = (s : S) (a b : Traffic) → Apart (count_of_nodes (s
 abbrev pub RingCommutes : Type 0
 RingCommutes = EndsCommute view call_ring
 
--- an entry or a move leaves every node that it does not touch, whatever it answers
-abbrev pub LeavesOthers : {S : Type 0} → (S → Network) → (Call → S → Outcome S) → Type 0
-LeavesOthers {S} seen step =
-    (s : S) (a : Traffic) (q : NodeNo) → (Touches (count_of_nodes (seen s)) a q → ⊥) →
-    node (seen (after s (step (as_call a) s))) q ≡ node (seen s) q
-
-abbrev pub RingLeavesOthers : Type 0
-RingLeavesOthers = LeavesOthers view call_ring
-
 -- the refusals that no other call changes: on an unsound ring 25, before the start 8, at a number that is no node 16
 pub record RefusedThere (a : Traffic) (ring : Ring) : Type 0 where
   pub unsound : sound_ring ring ≡ false → call_ring (as_call a) ring ≡ refused UnsoundRing
@@ -65,13 +57,13 @@ pub record RefusedThere (a : Traffic) (ring : Ring) : Type 0 where
   pub no-such-node :
       sound_ring ring ≡ true → (view ring).started ≡ true → count_of_nodes (view ring) ≤ (own a).0 → call_ring (as_call a) ring ≡ refused NoSuchNode
 
--- and so of what code returns that meets the contracts: the replies and the ring, each command on the ring that the one before returned
-pub record CodeCommutes (code : Code) (a b : TypedCommand) (ring : TypedRing) : Type 0 where
-  pub first-reply : (code.perform a (code.perform b ring).next).answer ≡ (code.perform a ring).answer
-  pub second-reply : (code.perform b (code.perform a ring).next).answer ≡ (code.perform b ring).answer
-  pub same-ring : (code.perform b (code.perform a ring).next).next.value ≡ (code.perform a (code.perform b ring).next).next.value
+-- and so of what code returns that meets the contracts: the replies and the ring, each call on the ring that the one before returned
+pub record CodeCommutes (code : Call → Ring → Step) (a b : Call) (ring : Ring) : Type 0 where
+  pub first-reply : (code a (code b ring).ring).reply ≡ (code a ring).reply
+  pub second-reply : (code b (code a ring).ring).reply ≡ (code b ring).reply
+  pub same-ring : (code b (code a ring).ring).ring ≡ (code a (code b ring).ring).ring
 
 abbrev pub ContractsCommute : Type 0
 ContractsCommute =
-    (code : Code) → MeetsContracts code → (ring : TypedRing) (c d : TypedCommand) (a b : Traffic) →
-    call_of c.value ≡ as_call a → call_of d.value ≡ as_call b → Apart (count_of_nodes (view ring.value)) a b → CodeCommutes code c d ring
+    (code : Call → Ring → Step) → MeetsContracts code →
+    (ring : Ring) (a b : Traffic) → Apart (count_of_nodes (view ring)) a b → CodeCommutes code (as_call a) (as_call b) ring

@@ -1,8 +1,10 @@
--- The dispatcher of the ring in memory, which its contracts cite, and its answer in code.
-use Rattle.std.specs.Prelude.{ℕ, ◌≤◌, ◌≡◌, cond, List, [], map, eqb, length, get_or}
+-- The dispatcher of the ring in memory, which its contracts cite, and its answer in code; and what is promised of code that meets the
+-- contracts, in lists of calls with dispatcher calls among them.
+use Rattle.std.specs.Prelude.{ℕ, ◌≤◌, ◌≡◌, ◌≢◌, List, [], map, length, get_or}
 use Rattle.batch.specs.declared.BatchRecord.{BatchRecord}
 use Rattle.batch.specs.Blank.{no_record}
 use Rattle.network.specs.declared.Ring.{Ring}
+use Rattle.network.specs.declared.Step.{Step}
 use Rattle.network.specs.declared.Answer.{Answer}
 use Rattle.network.specs.declared.Answer.TheVariants.{Done, Refused}
 use Rattle.network.specs.declared.Dispatched.{Dispatched}
@@ -11,9 +13,11 @@ use Rattle.network.specs.declared.HeadDispatched.{HeadDispatched}
 use Rattle.network.specs.Counting.{tabulate}
 use Rattle.network.specs.Network.{channel_no}
 use Rattle.network.specs.Calls.{Delivery}
-use Rattle.network.specs.Layout.{channel_room, view, sound_ring, call_ring, ring_in}
-use Rattle.network.specs.Answers.{number_in, refusal_in}
-use Rattle.network.specs.Dispatch.{Dispatch, not_run, ran, after_dispatch, dispatched}
+use Rattle.network.specs.Runs.{Call, run}
+use Rattle.network.specs.Layout.{ring_limits, channel_room, view, fresh_ring, sound_ring, call_ring, ring_in}
+use Rattle.network.specs.Answers.{number_in}
+use Rattle.network.specs.Dispatch.{Dispatch, not_run, ran, after_dispatch, deliveries, rounds_made, spelled, dispatched, DispatcherKeeps, ActsDemand3}
+use Rattle.network.specs.Promise.{MeetsContracts, returned}
 
 unfoldable pub dispatch_ring : ℕ → Ring → Dispatch Ring
 dispatch_ring given ring = dispatched sound_ring view call_ring given ring
@@ -55,10 +59,33 @@ deliveries_in d =
 abbrev pub TellsAll : Type 0
 TellsAll = (a : Answer) (rounds : ℕ) (ds : List Delivery) → length ds ≤ channel_room → deliveries_in (answered a rounds ds) ≡ ds
 
--- What an answer in code says with the ring beside it: without a refusal number the dispatcher ran, with its rounds, its deliveries and that
--- ring; else it was refused. So nothing is lost in the answer.
-abbrev pub ran_in : {S : Type 0} → Dispatched → S → Dispatch S
-ran_in d s = cond (eqb (number_in d.answer) 0) (ran d.rounds (deliveries_in d) s) (not_run (refusal_in d.answer))
+-- code: single calls as in Promise, and the dispatcher with the number of rounds that it is given
+module _ (code : Call → Ring → Step) (dispatcher : ℕ → Ring → DispatchStep) where
+  -- the contract of the dispatcher
+  abbrev pub MeetsDispatch : Type 0
+  MeetsDispatch = (given : ℕ) (ring : Ring) → dispatcher given ring ≡ dispatch_step_of ring (dispatch_ring given ring)
 
-abbrev pub DispatchKeeps : Type 0
-DispatchKeeps = (given : ℕ) (ring : Ring) → ran_in (dispatch_step given ring).dispatched (dispatch_step given ring).ring ≡ dispatch_ring given ring
+  -- Accepted, it returns what the code returns for the same entries and moves called singly: the ring, and the deliveries in order.
+  pub record AsSingly (given : ℕ) (ring : Ring) : Type 0 where
+    pub rounds-made : (dispatcher given ring).dispatched.rounds ≡ rounds_made sound_ring view (returned code) given ring
+    pub same-ring :
+        (dispatcher given ring).ring ≡ run (returned code) (spelled sound_ring view (returned code) given ring) ring
+    pub same-deliveries :
+        deliveries_in (dispatcher given ring).dispatched ≡ deliveries (returned code) (spelled sound_ring view (returned code) given ring) ring
+
+  -- refused, it changes nothing and tells no delivery
+  pub record TurnsAway (given : ℕ) (ring : Ring) : Type 0 where
+    pub ring-as-before : (dispatcher given ring).ring ≡ ring
+    pub nothing-told : (dispatcher given ring).dispatched ≡ answered (dispatcher given ring).dispatched.answer 0 []
+
+  pub record DispatchPromised : Type 0 where
+    pub as-singly : (given : ℕ) (ring : Ring) → number_in (dispatcher given ring).dispatched.answer ≡ 0 → AsSingly given ring
+    pub turns-away : (given : ℕ) (ring : Ring) → number_in (dispatcher given ring).dispatched.answer ≢ 0 → TurnsAway given ring
+    pub keeps : DispatcherKeeps sound_ring view (returned code)
+    pub demand3 : ActsDemand3 fresh_ring sound_ring view (returned code) ring_limits
+
+-- code that meets the contracts, those of the single calls and that of the dispatcher, keeps all that is promised of lists of acts
+abbrev pub DispatchSuffices : Type 0
+DispatchSuffices =
+    (code : Call → Ring → Step) (dispatcher : ℕ → Ring → DispatchStep) → MeetsContracts code → MeetsDispatch code dispatcher →
+    DispatchPromised code dispatcher

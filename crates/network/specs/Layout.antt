@@ -1,6 +1,6 @@
 -- How a ring lies in memory, and the ring calls on it. `view` reads the ring off its arrays, `hold` lays one out; the definitions
 -- above know nothing of cells. Only this file knows how many nodes, channels and cells the arrays have room for.
-use Rattle.std.specs.Prelude.{ℕ, zero, suc, pred, ◌+◌, ◌*◌, ◌≡◌, Bool, true, false, cond, ◌&&◌, List, [], ◌∷◌, ◌++◌, map, eqb, length, get_or, take, drop, replicate}
+use Rattle.std.specs.Prelude.{ℕ, zero, suc, pred, ◌+◌, ◌*◌, Bool, true, false, cond, ◌&&◌, List, [], ◌∷◌, ◌++◌, map, eqb, length, get_or, take, drop, replicate}
 use Rattle.std.proofs.Math.Option.{Option, none, some}
 use Rattle.refusal.specs.declared.Refusal.TheVariants.{UnsoundRing}
 use Rattle.batch.specs.declared.BatchRecord.{BatchRecord}
@@ -8,7 +8,7 @@ use Rattle.numbers.specs.declared.ChannelNo.{ChannelNo}
 use Rattle.wire.specs.Record.{record_length, record_bytes, record_in}
 use Rattle.network.specs.declared.Ring.{Ring}
 use Rattle.network.specs.declared.Head.{Head}
-use Rattle.network.specs.declared.Finding.{Finding}
+use Rattle.network.specs.declared.Answer.{Answer}
 use Rattle.network.specs.declared.Reply.{Reply}
 use Rattle.network.specs.declared.Step.{Step}
 use Rattle.network.specs.declared.HeadStep.{HeadStep}
@@ -17,8 +17,8 @@ use Rattle.network.specs.Network.{Network, NodeState, ChannelState, Phase, resti
 use Rattle.network.specs.Sound.{Limits}
 use Rattle.network.specs.Sound
 use Rattle.network.specs.Calls.{Outcome, refused, accepted, unless}
-use Rattle.network.specs.Runs.{Call, is_question, call}
-use Rattle.network.specs.Answers.{step_of, outcome_of, finding_of, found_on}
+use Rattle.network.specs.Runs.{Call, call}
+use Rattle.network.specs.Answers.{step_of, reply_of}
 
 -- the limits of this ring
 abbrev pub ring_limits : Limits
@@ -246,7 +246,7 @@ held_outcome (accepted e σ) = accepted e (hold σ)
 unfoldable pub call_ring : Call → Ring → Outcome Ring
 call_ring a ring = unless (sound_ring ring) (refused UnsoundRing) (held_outcome (call ring_limits a (view ring)))
 
--- the ring as a command leaves it, and the reply; each by itself; and what is found for a question, which leaves the ring
+-- the ring as a call leaves it, and the reply; each by itself; and the answer to a question, which leaves the ring
 abbrev pub step_ring : Call → Ring → Step
 step_ring a ring = step_of ring (call_ring a ring)
 
@@ -256,79 +256,43 @@ ring_after a ring = (step_ring a ring).ring
 abbrev pub reply_to : Call → Ring → Reply
 reply_to a ring = (step_ring a ring).reply
 
-abbrev pub answer_to : Call → Ring → Finding
-answer_to a ring = finding_of (call_ring a ring)
+abbrev pub answer_to : Call → Ring → Answer
+answer_to a ring = (reply_of (call_ring a ring)).answer
 
--- So nothing is lost: the step of a command says its outcome, and so does what is found for a question, of the ring that was asked.
-abbrev pub StepsKeep : Type 0
-StepsKeep = (a : Call) (ring : Ring) → is_question a ≡ false → outcome_of (step_ring a ring) ≡ call_ring a ring
-
-abbrev pub FindingsKeep : Type 0
-FindingsKeep = (a : Call) (ring : Ring) → is_question a ≡ true → found_on (answer_to a ring) ring ≡ call_ring a ring
-
--- the parts of a head: the counts, what is said of the nodes, and what is said of the channels
-pub record Counts : Type 0 where
-  pub deliveries : ℕ
-  pub started : ℕ
-  pub nodes : ℕ
-  pub channels : ℕ
-  pub spare : ℕ
-
-pub record NodeTables : Type 0 where
-  pub capacity : List ℕ
-  pub used : List ℕ
-  pub waiting : List ℕ
-  pub marks : List ℕ
-
-pub record ChannelTables : Type 0 where
-  pub senders : List ℕ
-  pub receivers : List ℕ
-  pub phases : List ℕ
-  pub offered : List ℕ
-
-abbrev pub head_of : Counts → NodeTables → ChannelTables → Head
-head_of c n k =
+-- the head with these numbers, in the order of its fields
+abbrev pub head_of : ℕ → ℕ → ℕ → ℕ → ℕ → List ℕ → List ℕ → List ℕ → List ℕ → List ℕ → List ℕ → List ℕ → List ℕ → Head
+head_of deliveries started nodes channels spare capacity used waiting marks senders receivers phases offered =
     record {
-      deliveries = c.deliveries;
-      started = c.started;
-      node_count = c.nodes;
-      channel_count = c.channels;
-      spare = c.spare;
-      capacity = n.capacity;
-      used = n.used;
-      waiting = n.waiting;
-      marks = n.marks;
-      senders = k.senders;
-      receivers = k.receivers;
-      phases = k.phases;
-      offered = k.offered;
+      deliveries = deliveries;
+      started = started;
+      node_count = nodes;
+      channel_count = channels;
+      spare = spare;
+      capacity = capacity;
+      used = used;
+      waiting = waiting;
+      marks = marks;
+      senders = senders;
+      receivers = receivers;
+      phases = phases;
+      offered = offered;
     }
-
-abbrev pub counts_in : Head → Counts
-counts_in h =
-    record { deliveries = h.deliveries; started = h.started; nodes = h.node_count; channels = h.channel_count; spare = h.spare }
-
-abbrev pub nodes_in : Head → NodeTables
-nodes_in h = record { capacity = h.capacity; used = h.used; waiting = h.waiting; marks = h.marks }
-
-abbrev pub channels_in : Head → ChannelTables
-channels_in h = record { senders = h.senders; receivers = h.receivers; phases = h.phases; offered = h.offered }
 
 -- the same head with other numbers of its nodes or its channels: those that a started ring's calls change
 abbrev pub with_nodes : Head → List ℕ → List ℕ → List ℕ → Head
 with_nodes h used waiting marks =
-    head_of (counts_in h) (record { capacity = h.capacity; used = used; waiting = waiting; marks = marks }) (channels_in h)
+    head_of h.deliveries h.started h.node_count h.channel_count h.spare h.capacity used waiting marks
+    h.senders h.receivers h.phases h.offered
 
 abbrev pub with_channels : Head → List ℕ → List ℕ → Head
 with_channels h phases offered =
-    head_of (counts_in h) (nodes_in h) (record { senders = h.senders; receivers = h.receivers; phases = phases; offered = offered })
+    head_of h.deliveries h.started h.node_count h.channel_count h.spare h.capacity h.used h.waiting h.marks
+    h.senders h.receivers phases offered
 
 abbrev pub with_deliveries : Head → ℕ → Head
 with_deliveries h deliveries =
-    head_of
-    (record { deliveries = deliveries; started = h.started; nodes = h.node_count; channels = h.channel_count; spare = h.spare })
-    (nodes_in h)
-    (channels_in h)
+    head_of deliveries h.started h.node_count h.channel_count h.spare h.capacity h.used h.waiting h.marks
+    h.senders h.receivers h.phases h.offered
 
 -- the ring, and the ring with its answer, of a head and of the cells and records that lie apart from it
 abbrev pub ring_in : Head → List ℕ → List ℕ → List ℕ → List ℕ → Ring

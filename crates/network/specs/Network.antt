@@ -1,14 +1,14 @@
 -- The ring of document 01 apart from how it is held in memory: nodes with a buffer and a line, channels with a phase and an offer.
 -- Buffers and lines are lists of channel numbers, first come first. A node number and a channel number are two types, so that neither is
 -- taken for the other. Nothing here knows how many nodes or channels there may be.
-use Rattle.std.specs.Prelude.{ℕ, ◌+◌, Bool, true, false, List, [], ◌∷◌, ◌++◌, map, ltb, eqb, length, get_or, set}
+use Rattle.std.specs.Prelude.{ℕ, ◌+◌, Bool, true, false, List, [], ◌∷◌, ◌++◌, map, ltb, length, get_or, set}
 use Rattle.std.proofs.Math.Option.{Option, none}
 use Rattle.batch.specs.declared.BatchRecord.{BatchRecord}
 use Rattle.numbers.specs.declared.NodeNo.{NodeNo}
 use Rattle.numbers.specs.declared.ChannelNo.{ChannelNo}
 pub use Rattle.numbers.specs.Numbers.{node_no, channel_no, same_node, same_channel}
 use Rattle.hops.specs.Hops.{hops, next}
-use Rattle.network.specs.Counting.{one, sum, count, without_first}
+use Rattle.network.specs.Counting.{sum, count, without_first}
 
 -- the numbers of a buffer or a line, and how many times channel k stands in it
 abbrev pub numbers_of : List ChannelNo → List ℕ
@@ -162,10 +162,3 @@ target σ k = target_of (channel σ k) (channel σ k).phase
 -- how many times channel k stands in lines and buffers
 abbrev pub times_on : Network → ChannelNo → ℕ
 times_on σ k = sum (count_of_nodes σ) (λ p. times_in (node σ (node_no p)).buffer k + times_in (node σ (node_no p)).line k)
-
--- how many channels have their message on the ring, and that none has: nothing is on the ring
-abbrev pub on_ring : Network → ℕ
-on_ring σ = sum (count_of_channels σ) (λ k. one (moving (channel σ (channel_no k)).phase))
-
-abbrev pub still : Network → Bool
-still σ = eqb (on_ring σ) 0

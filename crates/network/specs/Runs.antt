@@ -1,6 +1,5 @@
 -- Document 01, "Runs of calls", with the withdrawals of document 02: lists of calls on anything that answers ring calls, what was offered
--- and delivered on a channel, and what is counted. S is what is called: the ring apart from its layout, the ring in memory, or a ring as
--- code takes it. A is what it is called with, and `meaning` says which ring call that is.
+-- and delivered on a channel, and what is counted. S is what is called: the ring apart from its layout, or the ring in memory.
 use Rattle.std.specs.Prelude.{ℕ, suc, ◌+◌, ◌*◌, Bool, true, false, cond, not, List, [], ◌∷◌, ◌++◌}
 use Rattle.std.proofs.Math.Option.{Option, none, some}
 use Rattle.batch.specs.declared.BatchRecord.{BatchRecord}
@@ -24,43 +23,6 @@ pub data Call : Type 0 where
   withdraw : ChannelNo → Call
   hops_left : ChannelNo → Call
   waiting_set : NodeNo → Call
-
--- the ring calls themselves, as what a ring is called with
-abbrev pub itself : Call → Call
-itself a = a
-
--- hops left and waiting set: the calls that ask and change nothing
-abbrev pub is_question : Call → Bool
-is_question (add_node slots) = false
-is_question (add_channel s r) = false
-is_question start = false
-is_question (receive k) = false
-is_question (send k x) = false
-is_question (enter p) = false
-is_question (move p) = false
-is_question (withdraw k) = false
-is_question (hops_left k) = true
-is_question (waiting_set p) = true
-
--- one for an entry, one for a move, one for any other call
-abbrev pub by_traffic : {A : Type 0} → Call → (NodeNo → A) → (NodeNo → A) → A → A
-by_traffic (add_node slots) entry moving other = other
-by_traffic (add_channel s r) entry moving other = other
-by_traffic start entry moving other = other
-by_traffic (receive k) entry moving other = other
-by_traffic (send k x) entry moving other = other
-by_traffic (enter p) entry moving other = entry p
-by_traffic (move p) entry moving other = moving p
-by_traffic (withdraw k) entry moving other = other
-by_traffic (hops_left k) entry moving other = other
-by_traffic (waiting_set p) entry moving other = other
-
--- entries and moves are the traffic; a move by itself
-abbrev pub is_traffic : Call → Bool
-is_traffic a = by_traffic a (λ p. true) (λ p. true) false
-
-abbrev pub is_move : Call → Bool
-is_move a = by_traffic a (λ p. false) (λ p. true) false
 
 abbrev pub call : Limits → Call → Network → Outcome Network
 call L (add_node slots) σ = Calls.add_node L slots σ
@@ -154,31 +116,30 @@ module _ {S : Type 0} where
   delivered_by k (refused r) = []
   delivered_by k (accepted e t) = handed_on k e
 
-module _ {A S : Type 0} (step : A → S → Outcome S) where
+module _ {S : Type 0} (step : Call → S → Outcome S) where
   -- each call gets the ring as the one before left it
-  abbrev pub run : List A → S → S
+  abbrev pub run : List Call → S → S
   run [] s = s
   run (a ∷ calls) s = run calls (after s (step a s))
 
-  -- delivered on channel k: the records in the answers that hold this channel, in the order of the calls
-  abbrev pub delivered_on : ChannelNo → List A → S → List BatchRecord
-  delivered_on k [] s = []
-  delivered_on k (a ∷ calls) s = delivered_by k (step a s) ++ delivered_on k calls (after s (step a s))
-
-module _ {A S : Type 0} (meaning : A → Call) (step : A → S → Outcome S) where
   -- what a run does, call by call
-  abbrev pub deeds : List A → S → List Deed
+  abbrev pub deeds : List Call → S → List Deed
   deeds [] s = []
-  deeds (a ∷ calls) s = deed_by (meaning a) (step a s) ∷ deeds calls (after s (step a s))
+  deeds (a ∷ calls) s = deed_by a (step a s) ∷ deeds calls (after s (step a s))
 
   -- how many accepted receives, sends, entries and moves a run has, but for the receives that it undoes
-  abbrev pub counted : List A → S → ℕ
+  abbrev pub counted : List Call → S → ℕ
   counted calls s = count_of (deeds calls s)
 
-  -- offered on channel k: the records of the run's accepted sends on it, in that order
-  abbrev pub offered_on : ChannelNo → List A → S → List BatchRecord
+  -- offered on channel k: the records of the run's accepted sends on it, in the order of the calls
+  abbrev pub offered_on : ChannelNo → List Call → S → List BatchRecord
   offered_on k [] s = []
-  offered_on k (a ∷ calls) s = offered_by k (meaning a) (step a s) ++ offered_on k calls (after s (step a s))
+  offered_on k (a ∷ calls) s = offered_by k a (step a s) ++ offered_on k calls (after s (step a s))
+
+  -- delivered on channel k: the records in the answers that hold this channel, in that order
+  abbrev pub delivered_on : ChannelNo → List Call → S → List BatchRecord
+  delivered_on k [] s = []
+  delivered_on k (a ∷ calls) s = delivered_by k (step a s) ++ delivered_on k calls (after s (step a s))
 
 -- Matched on channel m: asking with a record offered, that record; answering, the record carried.
 abbrev pub matched_in : Phase → Option BatchRecord → Option BatchRecord

@@ -1,12 +1,12 @@
 -- Document 01, "A sound ring", clause by clause, as one test that can be run.
-use Rattle.std.specs.Prelude.{ℕ, ◌+◌, ◌<◌, min, ◌≡◌, ◌↔◌, Bool, true, false, cond, ◌&&◌, ◌||◌, not, [], leb, ltb, eqb, length}
+use Rattle.std.specs.Prelude.{ℕ, ◌+◌, min, Bool, true, false, cond, ◌&&◌, ◌||◌, not, leb, ltb, eqb, length}
 use Rattle.std.proofs.Math.Option.{Option, none, some}
 use Rattle.batch.specs.declared.BatchRecord.{BatchRecord}
 use Rattle.batch.specs.Good.{every, good_record}
 use Rattle.numbers.specs.declared.NodeNo.{NodeNo}
 use Rattle.numbers.specs.declared.ChannelNo.{ChannelNo}
 use Rattle.network.specs.Counting.{one, all_below, occupied}
-use Rattle.network.specs.Network.{Network, Phase, resting, asking, ready, answering, count_of_nodes, count_of_channels, slot_count, node_no, channel_no, same_node, node, channel, is_node, is_channel, hops_on, moving, entry, target, times_on, still}
+use Rattle.network.specs.Network.{Network, Phase, resting, asking, ready, answering, count_of_nodes, count_of_channels, slot_count, node_no, channel_no, same_node, node, channel, is_node, is_channel, hops_on, moving, entry, target, times_on}
 
 -- what a size of ring allows: so many nodes, so many channels, so many slots a node
 pub record Limits : Type 0 where
@@ -106,10 +106,3 @@ sound L σ =
     && all_below (count_of_nodes σ) (λ p. sound_node L σ (node_no p))
     && all_below (count_of_channels σ) (λ k. sound_channel σ (channel_no k))
     && cond σ.started (sound_after σ) (sound_before σ)
-
--- Nothing is on the ring in document 01's words: in no line and in no buffer. On a sound ring that is what the phases say.
-abbrev pub NothingOn : Network → Type 0
-NothingOn σ = (p : ℕ) → p < count_of_nodes σ → ((node σ (node_no p)).buffer ≡ []) × ((node σ (node_no p)).line ≡ [])
-
-abbrev pub StillIsEmpty : Type 0
-StillIsEmpty = (L : Limits) (σ : Network) → sound L σ ≡ true → (still σ ≡ true) ↔ NothingOn σ

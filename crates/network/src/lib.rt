@@ -128,18 +128,12 @@ pub fn one_more(count: u32) -> u32
     count + 1
 }
 
-// What a command answers: the refusal, or what an accepted command has to say.
+// What a call answers: the refusal, or what an accepted call has to say.
 #[derive(Drop)]
 pub enum Answer {
     Done,
     // A move that delivered: the channel. The record stands beside the answer.
     Delivered(ChannelNo),
-    Refused(Refusal),
-}
-
-// What is found for a question: the refusal, or the number that was asked for.
-#[derive(Drop)]
-pub enum Finding {
     // Hops left.
     Hops(u8),
     // A waiting set, channel 0 being the lowest bit.

@@ -2,16 +2,18 @@
 -- answers it.
 use Rattle.std.specs.Prelude.{ℕ, ◌≡◌, ltb}
 use Rattle.std.specs.Int.Count.{ones}
-use Rattle.refusal.specs.Number.{number_of, Said, says}
+use Rattle.refusal.specs.Number.{number_of}
 use Rattle.numbers.specs.declared.NodeNo.{NodeNo}
-use Rattle.network.specs.declared.Finding.{Finding}
-use Rattle.network.specs.declared.Finding.TheVariants as found
+use Rattle.network.specs.declared.Answer.{Answer}
+use Rattle.network.specs.declared.Answer.TheVariants.{Done, Delivered, Hops}
+use Rattle.network.specs.declared.Answer.TheVariants as answer
 use Rattle.network.specs.declared.Ring.{Ring}
 use Rattle.network.specs.Counting.{one, sum}
 use Rattle.network.specs.Network.{Network, channel_no, count_of_nodes, count_of_channels, channel}
 use Rattle.network.specs.Calls.{unless, waits, waiting_of}
 use Rattle.network.specs.Runs
-use Rattle.network.specs.Layout.{view, sound_ring, answer_to}
+use Rattle.network.specs.Answers.{reply_of}
+use Rattle.network.specs.Layout.{view, sound_ring, call_ring}
 use Rattle.questions.specs.declared.Tasks.{Tasks}
 use Rattle.questions.specs.declared.Tasks.TheVariants.{Waiting, Refused}
 
@@ -23,22 +25,31 @@ tasks_of σ p = sum (count_of_channels σ) (λ k. one (waits p (channel σ (chan
 abbrev pub OnesAreTasks : Type 0
 OnesAreTasks = (σ : Network) (p : NodeNo) → ones (waiting_of σ p) ≡ tasks_of σ p
 
--- the answer in code: what is found for the waiting set, its ones counted; that is a set or a refusal and nothing else
-abbrev pub tasks_in : Finding → Tasks
-tasks_in (found.Hops h) = Waiting 0
-tasks_in (found.Waiting set) = Waiting (ones set)
-tasks_in (found.Refused r) = Refused r
+-- the answer in code: what the waiting set is answered with, its ones counted; it is answered with a set or a refusal and nothing else
+abbrev pub tasks_in : Answer → Tasks
+tasks_in Done = Waiting 0
+tasks_in (Delivered k) = Waiting 0
+tasks_in (Hops h) = Waiting 0
+tasks_in (answer.Waiting set) = Waiting (ones set)
+tasks_in (answer.Refused r) = Refused r
 
 abbrev pub tasks_to : NodeNo → Ring → Tasks
-tasks_to node ring = tasks_in (answer_to (Runs.waiting_set node) ring)
+tasks_to node ring = tasks_in (reply_of (call_ring (Runs.waiting_set node) ring)).answer
 
 -- document 01's number and value for each case of the answer; a refusal answers its number alone
-abbrev pub said_in : Tasks → Said ℕ
+pub record CountSaid : Type 0 where
+  pub number : ℕ
+  pub tasks : ℕ
+
+abbrev pub says : ℕ → ℕ → CountSaid
+says number tasks = record { number = number; tasks = tasks }
+
+abbrev pub said_in : Tasks → CountSaid
 said_in (Waiting tasks) = says 0 tasks
 said_in (Refused r) = says (number_of r) 0
 
 -- what document 01 has answered to the question: 25 on an unsound ring, 16 where there is no such node, or how many tasks wait
-abbrev pub tasks_said : NodeNo → Ring → Said ℕ
+abbrev pub tasks_said : NodeNo → Ring → CountSaid
 tasks_said node ring =
     unless (sound_ring ring) (says 25 0)
     (unless (ltb node.0 (count_of_nodes (view ring))) (says 16 0)

@@ -12,7 +12,7 @@ ghost use Rattle.questions.specs.Tasks.{tasks_in};
 
 use command::Question;
 use hops;
-use network::{Cells, Finding, Head, Records, Ring};
+use network::{Answer, Cells, Head, Records, Ring};
 use numbers::{ChannelNo, NodeNo};
 use refusal::{Refusal, Verdict};
 use updates::opening::{Subject, open};
@@ -32,7 +32,7 @@ pub fn ask(
     offers: &Records,
     carried: &Records,
     question: Question,
-) -> Finding
+) -> Answer
     ensures { result
         ≡ answer_to (question_call question)
         (ring_in head slots.now lines.now offers.now carried.now) }
@@ -51,7 +51,7 @@ fn hops_left(
     offers: &Records,
     carried: &Records,
     channel: ChannelNo,
-) -> Finding
+) -> Answer
     ensures { result
         ≡ answer_to (hops_left channel)
         (ring_in head slots.now lines.now offers.now carried.now) }
@@ -59,10 +59,10 @@ fn hops_left(
     let subject = Subject::Channel(channel);
     let opening = open(head, slots, lines, offers, carried, subject);
     if let Verdict::Refused(refusal) = opening {
-        return Finding::Refused(refusal);
+        return Answer::Refused(refusal);
     }
     let left = hops_of(head, slots, channel.0);
-    Finding::Hops(left)
+    Answer::Hops(left)
 }
 
 // Hops left of a channel. A message in a line has its hops to go from the node where it enters; one in the buffer of a node, those from
@@ -119,7 +119,7 @@ fn waiting_set(
     offers: &Records,
     carried: &Records,
     node: NodeNo,
-) -> Finding
+) -> Answer
     ensures { result
         ≡ answer_to (waiting_set node)
         (ring_in head slots.now lines.now offers.now carried.now) }
@@ -127,10 +127,10 @@ fn waiting_set(
     let subject = Subject::Tasks(node);
     let opening = open(head, slots, lines, offers, carried, subject);
     if let Verdict::Refused(refusal) = opening {
-        return Finding::Refused(refusal);
+        return Answer::Refused(refusal);
     }
     let set = set_of(head, node.0);
-    Finding::Waiting(set)
+    Answer::Waiting(set)
 }
 
 // From the last channel to the first: every channel moves the set up by a bit, and its own is the lowest.
@@ -168,13 +168,13 @@ pub fn waiting_tasks(set: u64) -> u32
     u64::count_ones(set)
 }
 
-// What is found for the waiting set says of the tasks: the number of ones in the set, or the refusal. Hops are not found for it.
-pub fn tasks_in(finding: Finding) -> Tasks
-    ensures { result ≡ tasks_in finding }
+// What an answer to the waiting set says of the tasks: the number of ones in the set, or the refusal. It answers no other.
+pub fn tasks_in(answer: Answer) -> Tasks
+    ensures { result ≡ tasks_in answer }
 {
-    match finding {
-        Finding::Hops(_) => Tasks::Waiting(0),
-        Finding::Waiting(set) => Tasks::Waiting(waiting_tasks(set)),
-        Finding::Refused(refusal) => Tasks::Refused(refusal),
+    match answer {
+        Answer::Waiting(set) => Tasks::Waiting(waiting_tasks(set)),
+        Answer::Refused(refusal) => Tasks::Refused(refusal),
+        _ => Tasks::Waiting(0),
     }
 }

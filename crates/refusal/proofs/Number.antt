@@ -1,7 +1,10 @@
--- The laws of the refusals' numbers. A number leads back to its refusal, so two refusals of one number are one.
+-- The laws of the refusals' numbers. The list of all refusals, in the order of their numbers, leads from a number back to its
+-- refusal (`case_of`); so two refusals of one number are one.
 use mathlib.Core.Path.{◌≡◌, refl, sym, ap, ◌∙◌}
-use Prim.Native.Nat.{◌≤◌}
+use mathlib.Core.List.{List, [], ◌∷◌}
+use Prim.Native.Nat.{ℕ, ◌-◌, ◌≤◌}
 use lib.Dec.{lit≤}
+use lib.ListN.{get_or}
 use Rattle.refusal.specs.declared.Refusal.{Refusal}
 use Rattle.refusal.specs.declared.Refusal.TheVariants.{AlreadyStarted, NodesFull, BadSlots, ChannelsFull, NoSuchEnd}
 use Rattle.refusal.specs.declared.Refusal.TheVariants.{NothingToStart, TooFewSlots, NotStarted, NoSuchChannel, NotResting}
@@ -9,10 +12,23 @@ use Rattle.refusal.specs.declared.Refusal.TheVariants.{BatchNumberZero, Temperat
 use Rattle.refusal.specs.declared.Refusal.TheVariants.{AlreadyOffered, NoSuchNode, LineEmpty, NoFreeSlot, BufferEmpty, NextBufferFull}
 use Rattle.refusal.specs.declared.Refusal.TheVariants.{TurnMarkSet, UnknownCommand, CommandCut, PlaceBeyondEnd, UnsoundRing, NoRoomToWrite}
 use Rattle.refusal.specs.declared.Refusal.TheVariants.{NotAsking, RequestInBuffer, NoEmptyRow, BlankEnd}
-use Rattle.refusal.specs.Number.{number_of, OneMeaning, InRange, refusal_numbered, NumberedBack}
+use Rattle.refusal.specs.Number.{number_of, OneMeaning, InRange}
+
+abbrev refusals : List Refusal
+refusals =
+    AlreadyStarted ∷ NodesFull ∷ BadSlots ∷ ChannelsFull ∷ NoSuchEnd ∷ NothingToStart ∷
+    TooFewSlots ∷ NotStarted ∷ NoSuchChannel ∷ NotResting ∷ BatchNumberZero ∷
+    TemperatureOutOfRange ∷ NameTooLong ∷ BadName ∷ AlreadyOffered ∷ NoSuchNode ∷
+    LineEmpty ∷ NoFreeSlot ∷ BufferEmpty ∷ NextBufferFull ∷ TurnMarkSet ∷ UnknownCommand ∷
+    CommandCut ∷ PlaceBeyondEnd ∷ UnsoundRing ∷ NoRoomToWrite ∷ NotAsking ∷ RequestInBuffer ∷
+    NoEmptyRow ∷ BlankEnd ∷ []
+
+-- the refusal of a number
+abbrev case_of : ℕ → Refusal
+case_of n = get_or refusals (n - 1) AlreadyStarted
 
 record Known (r : Refusal) : Type 0 where
-  back : refusal_numbered (number_of r) ≡ r
+  back : case_of (number_of r) ≡ r
   least : 1 ≤ number_of r
   most : number_of r ≤ 30
 
@@ -49,10 +65,7 @@ known NoEmptyRow = record { back = refl; least = lit≤ tt; most = lit≤ tt }
 known BlankEnd = record { back = refl; least = lit≤ tt; most = lit≤ tt }
 
 pub one-meaning : OneMeaning
-one-meaning a b e = sym (known a).back ∙ ap refusal_numbered e ∙ (known b).back
+one-meaning a b e = sym (known a).back ∙ ap case_of e ∙ (known b).back
 
 pub in-range : InRange
 in-range r = ((known r).least, (known r).most)
-
-pub numbered-back : NumberedBack
-numbered-back r = (known r).back

@@ -1,6 +1,6 @@
 -- The number of each refusal and of a verdict, as document 01 has it, and what the list promises: no two refusals share a number, and the
 -- numbers are 1 to 30, so that 0 says that there was no refusal.
-use Rattle.std.specs.Prelude.{◌≡◌, ℕ, ◌-◌, ◌≤◌, List, [], ◌∷◌, get_or}
+use Rattle.std.specs.Prelude.{◌≡◌, ℕ, ◌≤◌}
 use Rattle.refusal.specs.declared.Refusal.{Refusal}
 use Rattle.refusal.specs.declared.Refusal.TheVariants.{AlreadyStarted, NodesFull, BadSlots, ChannelsFull, NoSuchEnd}
 use Rattle.refusal.specs.declared.Refusal.TheVariants.{NothingToStart, TooFewSlots, NotStarted, NoSuchChannel, NotResting}
@@ -48,14 +48,6 @@ abbrev pub verdict_number : Verdict → ℕ
 verdict_number Passed = 0
 verdict_number (Refused r) = number_of r
 
--- what an answer says that is a value or a refusal: the value and 0, or the refusal's number alone, beside a blank
-pub record Said (A : Type 0) : Type 0 where
-  pub number : ℕ
-  pub value : A
-
-abbrev pub says : {A : Type 0} → ℕ → A → Said A
-says number value = record { number = number; value = value }
-
 -- two refusals never share a number
 abbrev pub OneMeaning : Type 0
 OneMeaning = (a b : Refusal) → number_of a ≡ number_of b → a ≡ b
@@ -63,19 +55,3 @@ OneMeaning = (a b : Refusal) → number_of a ≡ number_of b → a ≡ b
 -- every number is from 1 to 30
 abbrev pub InRange : Type 0
 InRange = (r : Refusal) → (1 ≤ number_of r) × (number_of r ≤ 30)
-
--- all refusals in the order of their numbers, and the one that has a number; a number that none has reads as the first
-abbrev pub refusals : List Refusal
-refusals =
-    AlreadyStarted ∷ NodesFull ∷ BadSlots ∷ ChannelsFull ∷ NoSuchEnd ∷ NothingToStart ∷
-    TooFewSlots ∷ NotStarted ∷ NoSuchChannel ∷ NotResting ∷ BatchNumberZero ∷
-    TemperatureOutOfRange ∷ NameTooLong ∷ BadName ∷ AlreadyOffered ∷ NoSuchNode ∷
-    LineEmpty ∷ NoFreeSlot ∷ BufferEmpty ∷ NextBufferFull ∷ TurnMarkSet ∷ UnknownCommand ∷
-    CommandCut ∷ PlaceBeyondEnd ∷ UnsoundRing ∷ NoRoomToWrite ∷ NotAsking ∷ RequestInBuffer ∷
-    NoEmptyRow ∷ BlankEnd ∷ []
-
-abbrev pub refusal_numbered : ℕ → Refusal
-refusal_numbered n = get_or refusals (n - 1) AlreadyStarted
-
-abbrev pub NumberedBack : Type 0
-NumberedBack = (r : Refusal) → refusal_numbered (number_of r) ≡ r

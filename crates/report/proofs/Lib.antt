@@ -1,4 +1,3 @@
--- The laws of the report: of a line that is put where there is room, what a line shows, and the lines that document 01 has.
+-- The laws of the report: of a line that is put where there is room, and the lines that document 01 shows.
 pub mod Room
 pub mod Examples
-pub mod Line

@@ -4,12 +4,11 @@ use mathlib.Core.Path.{◌≡◌, refl}
 use mathlib.Core.List.{List}
 use lib.ListN.{length, take}
 use borrow.Author.Tests.{le-leb, lt-leb}
-use Rattle.batch.specs.Buffer.{overwritten}
 use Rattle.report.specs.declared.Put.{Put}
 use Rattle.report.specs.declared.Put.TheVariants.{Written, NoRoom}
 use Rattle.text.specs.Appends.{Appends}
 use Rattle.report.specs.Line.{line_room}
-use Rattle.text.proofs.Appends.{reads}
+use Rattle.text.specs.Fields.{laid}
 use Rattle.report.specs.Put.{put_answer, put}
 
 module _ (buffer : List ℕ) (place : ℕ) (line : List ℕ) where
@@ -18,11 +17,11 @@ module _ (buffer : List ℕ) (place : ℕ) (line : List ℕ) where
   no_room h = rw (lt-leb _ _ h) (refl, refl)
 
   pub room : place + length line ≤ length buffer
-      → (Written (place + length line) ≡ put_answer buffer place line) × (overwritten buffer place line ≡ put buffer place line)
+      → (Written (place + length line) ≡ put_answer buffer place line) × (laid buffer place line ≡ put buffer place line)
   unfolding put_answer put
   room h = rw (le-leb _ _ h) (refl, refl)
 
 pub built : (buffer : List ℕ) (place : ℕ) {s t line after : List ℕ} {end : ℕ} {answer : Put} → Appends s t 0 end line line_room
     → (answer ≡ put_answer buffer place (take end t)) × (after ≡ put buffer place (take end t))
     → (answer ≡ put_answer buffer place line) × ((after ≡ put buffer place line) × (length line ≤ line_room))
-built buffer place a p = (rw (← reads a) p.0, (rw (← reads a) p.1, a.within))
+built buffer place a p = (rw (← a.reads) p.0, (rw (← a.reads) p.1, a.within))

@@ -1,6 +1,6 @@
 -- A line put into a lent buffer at a place: the whole line where it fits, or nothing.
 use Rattle.std.specs.Prelude.{ℕ, ◌+◌, Bool, cond, List, leb, length}
-use Rattle.batch.specs.Buffer.{overwritten}
+use Rattle.text.specs.Fields.{laid}
 use Rattle.report.specs.declared.Put.{Put}
 use Rattle.report.specs.declared.Put.TheVariants.{Written, NoRoom}
 
@@ -13,4 +13,4 @@ put_answer buffer place line = cond (fits buffer place line) (Written (place + l
 
 -- the buffer afterwards: with the line, or as it was
 unfoldable pub put : List ℕ → ℕ → List ℕ → List ℕ
-put buffer place line = cond (fits buffer place line) (overwritten buffer place line) buffer
+put buffer place line = cond (fits buffer place line) (laid buffer place line) buffer

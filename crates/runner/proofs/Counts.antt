@@ -1,7 +1,7 @@
 -- The counts of a session are exact: those that stop at the largest number are the same as those that rise by one, as long as they stay
 -- below it, which the counts of a tape that is run do. So what is to come at the beginning is the listing.
 use Prim.Native.Nat.{ℕ, zero, suc, ◌+◌, ◌-◌, ◌≤◌, ◌<◌}
-use mathlib.Core.Path.{◌≡◌, refl, sym, ap, ◌∙◌}
+use mathlib.Core.Path.{◌≡◌, refl, sym, ◌∙◌}
 use mathlib.Core.List.{List}
 use native.Mathlib.Omega.{arith}
 use lib.ListN.{length}
@@ -18,8 +18,8 @@ use Rattle.network.specs.Answers.{is_refusal}
 use Rattle.network.specs.Layout.{step_ring}
 use Rattle.runner.specs.Session.{longest, beginning, ended, passed, answered, next_in, next, lines}
 use Rattle.network.specs.Sound.{next_count}
-use Rattle.runner.specs.Listing.{by_one, listing_of, first_lines, to_come, FromTheBeginning, FirstLines}
-use Rattle.runner.proofs.Lines.{next-too-long, next-after, not-cut, one_line}
+use Rattle.runner.specs.Listing.{by_one, listing_of, to_come, FromTheBeginning}
+use Rattle.runner.proofs.Lines.{next-too-long, next-after, long-alone}
 
 below : (n : ℕ) → n < 4294967295 → next_count n ≡ n + 1
 unfolding next_count
@@ -84,30 +84,8 @@ module _ (tape : List ℕ) where
   lines_same (suc n) s k =
       rw (← (next-same n s k), lines_same n (next by_one tape s).session (next-countable n s k))
 
-  long_same : (n : ℕ) → longest < length tape → lines by_one n tape beginning ≡ lines next_count n tape beginning
-  unfolding lines
-  long_same zero h = refl
-  long_same (suc n) h = one_line by_one tape n h ∙ sym (one_line next_count tape n h)
-
-  short-same : (n : ℕ) → length tape ≤ longest → n ≤ length tape + 2 → lines by_one n tape beginning ≡ lines next_count n tape beginning
-  short-same n h few = lines_same n beginning (record { numbered = omega arith; accepted = omega arith; refused = omega arith })
-
-  -- any number of lines: more than all are all
-  same : (n : ℕ) → lines by_one n tape beginning ≡ lines next_count n tape beginning
-  same n =
-      by_less longest (length tape) (long_same n) λ h.
-      by_less n (length tape + 2) (λ few. short-same n h (omega arith)) λ many.
-      let more : n ≡ length tape + 2 + (n - (length tape + 2)) = omega arith in
-      ap (λ (k : ℕ). lines by_one k tape beginning) more
-      ∙ not-cut by_one tape beginning _
-      ∙ short-same (length tape + 2) h (omega arith)
-      ∙ sym (not-cut next_count tape beginning _)
-      ∙ ap (λ (k : ℕ). lines next_count k tape beginning) (sym more)
-
-pub first-lines : FirstLines
-unfolding first_lines
-first-lines tape n = sym (same tape n)
-
 pub from-the-beginning : FromTheBeginning
 unfolding to_come listing_of
-from-the-beginning tape = sym (same tape (length tape + 2))
+from-the-beginning tape =
+    by_less longest (length tape) (λ h. long-alone next_count tape h ∙ sym (long-alone by_one tape h)) λ h.
+    sym (lines_same tape (length tape + 2) beginning (record { numbered = omega arith; accepted = omega arith; refused = omega arith }))

@@ -20,7 +20,7 @@ use Rattle.tape.specs.declared.Reading.{Reading}
 use Rattle.tape.specs.declared.ReadAnswer.{ReadAnswer}
 use Rattle.tape.specs.declared.ReadAnswer.TheVariants.{Read, End, Refused}
 use Rattle.tape.specs.Shape.{width_of}
-use Rattle.tape.specs.Table.{CommandRow, row_of}
+use Rattle.tape.specs.Table.{Row, row_of}
 use Rattle.tape.specs.Tape.{read_at, read_row}
 use Rattle.report.specs.Line.{line_of, end_of, too_long}
 use Rattle.runner.specs.declared.Session.{Session}
@@ -35,7 +35,7 @@ Ahead tape place (Read after) = (place < after) × (after ≤ length tape)
 Ahead tape place End = Unit {0}
 Ahead tape place (Refused r) = place ≢ length tape
 
-ahead-row : (tape : List ℕ) (place : ℕ) (r : CommandRow) → place < length tape
+ahead-row : (tape : List ℕ) (place : ℕ) (r : Row) → place < length tape
     → Ahead tape place (read_row r place (drop place tape)).answer
 unfolding read_row
 ahead-row tape place r h =
@@ -202,16 +202,10 @@ pub line-by-line : LineByLine
 unfolding to_come
 line-by-line tape s e = by-line next_count tape s e
 
--- a tape that is too long has one line
-pub one_line : (up : ℕ → ℕ) (tape : List ℕ) (n : ℕ) → longest < length tape → lines up (suc n) tape beginning ≡ too_long
-one_line up tape n h =
-    one_more up tape beginning n refl
-    ∙ rw (next-too-long up tape beginning h, none_over up tape (ended beginning) n refl, append-nil)
-
-long-alone : (up : ℕ → ℕ) (tape : List ℕ) → longest < length tape → all_lines up tape beginning ≡ too_long
+pub long-alone : (up : ℕ → ℕ) (tape : List ℕ) → longest < length tape → all_lines up tape beginning ≡ too_long
 long-alone up tape h =
-    let k : length tape + 2 ≡ suc (length tape + 1) = omega arith in
-    rw k (one_line up tape (length tape + 1) h)
+    by-line up tape beginning refl
+    ∙ rw (next-too-long up tape beginning h, none_over up tape (ended beginning) (length tape + 2) refl, append-nil)
 
 pub too-long-alone : TooLongAlone
 unfolding listing_of

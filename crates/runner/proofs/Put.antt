@@ -5,6 +5,7 @@ use mathlib.Core.List.{List}
 use native.Mathlib.Omega.{arith}
 use lib.ListN.{length}
 use borrow.Author.Tests.{le-leb}
+use Rattle.wire.specs.Bytes.{overwritten}
 use Rattle.report.specs.declared.Put.{Put}
 use Rattle.report.specs.Line.{line_room}
 use Rattle.report.specs.Put.{put_answer, put}
@@ -14,7 +15,7 @@ pub placed : (line : List ℕ) (at : ℕ) (before after : List ℕ) (answer : Pu
     → (answer ≡ put_answer before at line) × ((after ≡ put before at line) × (length line ≤ line_room))
     → end ≡ end_of_put answer at
     → Placed line at before after end
-unfolding put_answer put
+unfolding put_answer put overwritten
 placed line at before after answer end room w e =
     let fits = le-leb (at + length line) (length before) (omega arith) in
     let ends : end ≡ at + length line = e ∙ rw (w.0, fits) in

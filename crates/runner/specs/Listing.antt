@@ -14,10 +14,6 @@ by_one n = n + 1
 unfoldable pub listing_of : List ℕ → List ℕ
 listing_of tape = all_lines by_one tape beginning
 
--- its first n lines, whole; all of them where there are fewer
-unfoldable pub first_lines : ℕ → List ℕ → List ℕ
-first_lines n tape = lines by_one n tape beginning
-
 -- the listing that is still to come of a session
 unfoldable pub to_come : List ℕ → Session → List ℕ
 to_come tape s = all_lines next_count tape s
@@ -25,10 +21,6 @@ to_come tape s = all_lines next_count tape s
 -- from the beginning, what is to come is the whole listing
 abbrev pub FromTheBeginning : Type 0
 FromTheBeginning = (tape : List ℕ) → to_come tape beginning ≡ listing_of tape
-
--- and the next lines are the first ones
-abbrev pub FirstLines : Type 0
-FirstLines = (tape : List ℕ) (n : ℕ) → lines next_count n tape beginning ≡ first_lines n tape
 
 -- a tape that is too long prints that and nothing else
 abbrev pub TooLongAlone : Type 0

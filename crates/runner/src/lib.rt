@@ -1,5 +1,5 @@
-// Runs a command tape: reads each command, calls the ring and writes the command's line of the listing into a lent buffer, whole lines, as
-// long as there is room for the longest. A session is what is kept between two runs; it may be any value at all, so no run asks anything.
+// Runs a command tape: reads each command, calls the ring and writes the command's line of the listing into a lent buffer, as many
+// whole lines at a time as have room. A session is what is kept between two runs; it may be any value at all, so no run asks anything.
 ghost use Rattle.std.specs.Prelude.{◌≡◌, ◌+◌, ◌≤◌, length, get_or};
 ghost use Rattle.network.specs.declared.Ring.{Ring};
 ghost use Rattle.network.specs.Answers.{reply_of, is_refusal};

@@ -15,7 +15,7 @@ use denote.Triple.Spec.{Meets}
 use denote.Triple.Clauses.{closing}
 use Rattle.command.specs.declared.Command.{Command}
 use Rattle.command.specs.declared.Question.{Question}
-use Rattle.network.specs.declared.Finding.{Finding}
+use Rattle.network.specs.declared.Answer.{Answer}
 use Rattle.network.specs.declared.Reply.{Reply}
 use Rattle.network.specs.declared.Ring.{Ring}
 use Rattle.network.specs.Answers.{call_of, question_call}
@@ -26,7 +26,7 @@ use Rattle.lent.proofs.Contract.{Lent, Clause, Says, clauses}
 use Rattle.lent.proofs.HandingOn.{handing, changes, asks}
 use Rattle.lent.proofs.Params.{Kind, Values, across}
 use Rattle.lent.proofs.Refs.{given-ref, shared-ref}
-use Rattle.site.proofs.Types.{command, question, finding, reply}
+use Rattle.site.proofs.Types.{command, question, answer, reply}
 use Rattle.site.proofs.Values.{ring}
 use Rattle.site.proofs.perform.Symbol as perform
 use Rattle.site.proofs.perform.Met as perform-met
@@ -56,14 +56,14 @@ module _ (ps : List Kind) (Y : Kind) (Into : Values ps → Command) (Out : Reply
         key (made h) (called perform.name perform.routine on (perform-met.met 𝓤 𝓛 𝓜 𝓡)) k closed
 
 -- h makes the question, and k tells the answer
-module _ (ps : List Kind) (Y : Kind) (Into : Values ps → Question) (Out : Finding → Y.row.Denot) where
+module _ (ps : List Kind) (Y : Kind) (Into : Values ps → Question) (Out : Answer → Y.row.Denot) where
   abbrev pub found : (d : Ring) → Values ps → Y.row.Denot
   found d x = Out (answer_to (question_call (Into x)) d)
 
   module _ {M : Type 1} {𝓤 : Ura M} (𝓛 : Logic 𝓤) (𝓜 : Model 𝓤 𝓛.H) (𝓡 : Running 𝓤 𝓛.H 𝓜)
       (Q : Clause (shared-ref ring) ps Y 𝓤) (says : Says (shared-ref ring) ps Y (λ κs a. tt) (λ κs a. found a.0.now (across 1 κs ps a.1)) 𝓤 Q)
       (env : Env) (key : Name) (h : Callee 𝓤 𝓛.H 𝓜 𝓡 env (CallOf question ps Into 𝓛)) (on : env ask.name ≡ ask.routine)
-      (k : Teller 𝓛 𝓜 𝓡 env one ps (question ∷ []) finding Y Out) where
+      (k : Teller 𝓛 𝓜 𝓡 env one ps (question ∷ []) answer Y Out) where
     open 𝓛 use {H}
 
     pub questions :
@@ -72,5 +72,5 @@ module _ (ps : List Kind) (Y : Kind) (Into : Values ps → Question) (Out : Find
         Meets 𝓛 (Lent (shared-ref ring) ps Y).signature ((tables 𝓤 H 𝓜 𝓡 env).C key)
         (closing 𝓛 (Lent (shared-ref ring) ps Y) (clauses (shared-ref ring) ps Y 𝓤 Q))
     questions closed =
-        asks ps ring (question ∷ []) finding Y (λ x. (Into x, tt)) Out (λ d x. answer_to (question_call x.0) d) 𝓛 𝓜 𝓡 Q says env
+        asks ps ring (question ∷ []) answer Y (λ x. (Into x, tt)) Out (λ d x. answer_to (question_call x.0) d) 𝓛 𝓜 𝓡 Q says env
         key (made h) (called ask.name ask.routine on (ask-met.met 𝓤 𝓛 𝓜 𝓡)) k closed

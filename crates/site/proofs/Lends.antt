@@ -187,22 +187,20 @@ module _ (X : Kind) (T : Headed X) (ps : List Kind)
         alloc1 ! (λ l₀. alloc1 ! (λ l₁. alloc_all ps (λ bs. alloc1 ! (λ lₛ. alloc1 ! (λ lₕ.
         alloc1 ! (λ m₁. alloc1 ! (λ m₂. alloc1 ! (λ m₃. alloc1 ! (λ m₄. alloc0 ! $
         params1 ! $ pass1 ! (init ! 13 refl (tt, tt)) $ move ! (12 ∷ []) $ pass_all 1 (κ, tt) ps bs a are.1 (pass0 ! $
-        (let held = local_at bs l₀ l₁ lₛ lₕ m₁ m₂ m₃ m₄ in
-        let shaped = shape_at bs l₀ l₁ lₛ lₕ m₁ m₂ m₃ m₄ in
         move ! (17 ∷ 18 ∷ 19 ∷ []) $ opens ! tt R.the_row {h = h} b o (λ vs. seen 𝓛 ring full_share h vs b o (λ is.
         move ! (1 ∷ []) $ drop ! $ take-apart b o 𝓛 full_share h (
         -- [the arrays; the head 4; the way back; the open borrow; obs; auth; the parameters 9; room for the arrays lent 10, 12, 14, 16, the head
         -- passed 18, what is returned 20; _1 22; room for _0 24, each with what frees it; true]
         assigns ! (of_opd ! (load ! (in-local refl (hop ! (look ! 22 refl) (fld ! refl (stop !)))) (look_raw ! 4 refl)))
-        (in-local (held 1) (stop !)) (init ! 18 refl (head.typed 𝓛 h.head _ (apart h is).of-head).0) $
+        (in-local (local_at bs l₀ l₁ lₛ lₕ m₁ m₂ m₃ m₄ 1) (stop !)) (init ! 18 refl (head.typed 𝓛 h.head _ (apart h is).of-head).0) $
         assigns ! (addr ! (in-local refl (hop ! (look ! 22 refl) (fld ! refl (stop !)))))
-        (in-local (held 2) (stop !)) (init ! 16 refl (tt, tt)) $
+        (in-local (local_at bs l₀ l₁ lₛ lₕ m₁ m₂ m₃ m₄ 2) (stop !)) (init ! 16 refl (tt, tt)) $
         assigns ! (addr ! (in-local refl (hop ! (look ! 22 refl) (fld ! refl (stop !)))))
-        (in-local (held 3) (stop !)) (init ! 14 refl (tt, tt)) $
+        (in-local (local_at bs l₀ l₁ lₛ lₕ m₁ m₂ m₃ m₄ 3) (stop !)) (init ! 14 refl (tt, tt)) $
         assigns ! (addr ! (in-local refl (hop ! (look ! 22 refl) (fld ! refl (stop !)))))
-        (in-local (held 4) (stop !)) (init ! 12 refl (tt, tt)) $
+        (in-local (local_at bs l₀ l₁ lₛ lₕ m₁ m₂ m₃ m₄ 4) (stop !)) (init ! 12 refl (tt, tt)) $
         assigns ! (addr ! (in-local refl (hop ! (look ! 22 refl) (fld ! refl (stop !)))))
-        (in-local (held 5) (stop !)) (init ! 10 refl (tt, tt)) $
+        (in-local (local_at bs l₀ l₁ lₛ lₕ m₁ m₂ m₃ m₄ 5) (stop !)) (init ! 10 refl (tt, tt)) $
         lend-all b o 𝓛 tt h (apart h is) (λ α₁ α₂ α₃ α₄ γ₁ γ₂ γ₃ γ₄.
         -- [the tokens; the arrays lent 4; what takes them back 8; the head 12; the way back; …; the parameters 17; …]
         calling-apart head s₁ s₂ s₃ s₄ ps T.kind Says' 𝓛 α₁ α₂ α₃ α₄ h.head
@@ -210,21 +208,21 @@ module _ (X : Kind) (T : Headed X) (ps : List Kind)
         (ref_to records b (o + to_offers) h.offers γ₃) (ref_to records b (o + to_carried) h.carried γ₄)
         (vptr b (o + to_slots)) (vptr b (o + to_lines)) (vptr b (o + to_offers)) (vptr b (o + to_carried)) x (fm_of 𝓤 H 𝓛.laws 𝓣) met
         (apart h is).of-head (good-across 1 (κ, tt) ps a are.1)
-        (reads-from 10 (and_then ! (load ! (in-local (held 1) (stop !)) (look ! 19 refl))
-        (and_then ! (load ! (in-local (held 2) (stop !)) (look ! 17 refl))
-        (and_then ! (load ! (in-local (held 3) (stop !)) (look ! 15 refl))
-        (and_then ! (load ! (in-local (held 4) (stop !)) (look ! 13 refl))
-        (and_then ! (load ! (in-local (held 5) (stop !)) (look ! 11 refl))
+        (reads-from 10 (and_then ! (load ! (in-local (local_at bs l₀ l₁ lₛ lₕ m₁ m₂ m₃ m₄ 1) (stop !)) (look ! 19 refl))
+        (and_then ! (load ! (in-local (local_at bs l₀ l₁ lₛ lₕ m₁ m₂ m₃ m₄ 2) (stop !)) (look ! 17 refl))
+        (and_then ! (load ! (in-local (local_at bs l₀ l₁ lₛ lₕ m₁ m₂ m₃ m₄ 3) (stop !)) (look ! 15 refl))
+        (and_then ! (load ! (in-local (local_at bs l₀ l₁ lₛ lₕ m₁ m₂ m₃ m₄ 4) (stop !)) (look ! 13 refl))
+        (and_then ! (load ! (in-local (local_at bs l₀ l₁ lₛ lₕ m₁ m₂ m₃ m₄ 5) (stop !)) (look ! 11 refl))
         (read_all ps bs φ x (params_at bs l₀ l₁ lₛ lₕ m₁ m₂ m₃ m₄))))))))
         (λ r e told fine.
-        land ! (in-local (held 0) (stop !)) (init ! 28 refl (T.kind.typed 𝓛 r _ fine).0) $
+        land ! (in-local (local_at bs l₀ l₁ lₛ lₕ m₁ m₂ m₃ m₄ 0) (stop !)) (init ! 28 refl (T.kind.typed 𝓛 r _ fine).0) $
         take-back-all b o 𝓛 tt α₁ α₂ α₃ α₄ γ₁ γ₂ γ₃ γ₄ (T.head_of r) e.1.0 e.1.1.0 e.1.1.1.0 e.1.1.1.1.0 (T.parts r fine).0 (λ f.
         -- [the arrays; the head 4; …; the parameters 9; the arrays lent 10; the head passed 18; what is returned 20; _1 22; room for _0 24; true]
         rewrite ! 20 (λ (τ : Ty). ‵ (fat full_share τ lₛ 0 (T.kind.val r))) T.shaped refl $
         rewrite ! 20 (λ (v : Val). ‵ (fat full_share pair_ty lₛ 0 v)) (T.spelled r) refl $
-        assigns ! (of_opd ! (load ! (in-local shaped (fld ! refl (stop !))) (look_in ! 20 (sub ! 0 refl (whole !)))))
+        assigns ! (of_opd ! (load ! (in-local (shape_at bs l₀ l₁ lₛ lₕ m₁ m₂ m₃ m₄) (fld ! refl (stop !))) (look_in ! 20 (sub ! 0 refl (whole !)))))
         (in-local refl (hop ! (look ! 22 refl) (fld ! refl (stop !)))) (store_raw ! 4 refl (head.typed 𝓛 (T.head_of r) _ (T.parts r fine).0).0) $
-        assigns ! (of_opd ! (load ! (in-local shaped (fld ! refl (stop !))) (look_in ! 20 (sub ! 1 refl (whole !)))))
+        assigns ! (of_opd ! (load ! (in-local (shape_at bs l₀ l₁ lₛ lₕ m₁ m₂ m₃ m₄) (fld ! refl (stop !))) (look_in ! 20 (sub ! 1 refl (whole !)))))
         (in-local refl (stop !)) (init ! 24 refl (X.typed 𝓛 (T.out_of r) _ (T.parts r fine).1).0) $
         (let d : Ring = ring_in (T.head_of r) e.1.0 e.1.1.0 e.1.1.1.0 e.1.1.1.1.0 in
         put-together b o 𝓛 full_share d (
@@ -238,7 +236,7 @@ module _ (X : Kind) (T : Headed X) (ps : List Kind)
         feq_i ! (List Val) (mut_vals s) (mut_vals s) refl $ fjoin3 ! $ move ! (1 ∷ 0 ∷ []) $
         (let said : Told h x r e.1.0 e.1.1.0 e.1.1.1.0 e.1.1.1.1.0 =
         subst (λ (y : Values ps). Told h y r e.1.0 e.1.1.0 e.1.1.1.0 e.1.1.1.1.0) (across-lift 4 _ ps x) told in
-        by ! (ends are.0 d (T.out_of r) (so h x r _ _ _ _ said).0 (so h x r _ _ _ _ said).1 (T.parts r fine).1))))))))))))))))))))))
+        by ! (ends are.0 d (T.out_of r) (so h x r _ _ _ _ said).0 (so h x r _ _ _ _ said).1 (T.parts r fine).1)))))))))))))))))))))
 
   -- ---- the theorem: `key` and `env` are the function's, g and `called` the call's
   module _ {M : Type 1} {𝓤 : Ura M} (𝓛 : Logic 𝓤) where

@@ -148,34 +148,32 @@ module _ (X : Kind) (ps : List Kind) (F : Ring → Values ps → X.row.Denot) wh
         -- [res; the borrow; the token; true]
         enter ! 𝓣.C 𝓣.Λ (looking X g ps) (vptr b o ∷ flat (types_at (slots 1 ps) (κ, tt)) (words 1 (κ, tt) ps a)) _ $
         alloc1 ! (λ l₀. alloc1 ! (λ l₁. alloc_all ps (λ bs. alloc1 ! (λ lₕ. alloc1 ! (λ m₁. alloc1 ! (λ m₂. alloc1 ! (λ m₃. alloc1 ! (λ m₄. alloc0 ! $
-        params1 ! $ pass1 ! (init ! 11 refl (tt, tt)) $ move ! (10 ∷ []) $ pass_all 1 (κ, tt) ps bs a are.1 (pass0 ! $
-        (let held = local_at bs l₀ l₁ lₕ m₁ m₂ m₃ m₄ in
-        move ! (16 ∷ 17 ∷ []) $
+        params1 ! $ pass1 ! (init ! 11 refl (tt, tt)) $ move ! (10 ∷ []) $ pass_all 1 (κ, tt) ps bs a are.1 (pass0 ! $ move ! (16 ∷ 17 ∷ []) $
         looks ! tt R.the_row (Is R.the_row) (shows 𝓛 R.the_row) ring-vals ring.tells (ring.copy_of 𝓛) h b o (λ q' vs.
         seen 𝓛 ring q' h vs b o (λ is. take-apart b o 𝓛 q' h (
         -- [shares of the arrays; of the head 4; the way back; what the ring owns; the open borrow; the borrow; the parameters 9; room for the
         -- arrays lent 10, 12, 14, 16 and the head passed 18; _1 20; room for _0 22, each with what frees it; res 24; true]
         assigns ! (of_opd ! (load ! (in-local refl (hop ! (look ! 20 refl) (fld ! refl (stop !)))) (look_raw ! 4 refl)))
-        (in-local (held 0) (stop !)) (init ! 18 refl (head.typed 𝓛 h.head _ (apart h is).of-head).0) $
+        (in-local (local_at bs l₀ l₁ lₕ m₁ m₂ m₃ m₄ 0) (stop !)) (init ! 18 refl (head.typed 𝓛 h.head _ (apart h is).of-head).0) $
         assigns ! (addr ! (in-local refl (hop ! (look ! 20 refl) (fld ! refl (stop !)))))
-        (in-local (held 1) (stop !)) (init ! 16 refl (tt, tt)) $
+        (in-local (local_at bs l₀ l₁ lₕ m₁ m₂ m₃ m₄ 1) (stop !)) (init ! 16 refl (tt, tt)) $
         assigns ! (addr ! (in-local refl (hop ! (look ! 20 refl) (fld ! refl (stop !)))))
-        (in-local (held 2) (stop !)) (init ! 14 refl (tt, tt)) $
+        (in-local (local_at bs l₀ l₁ lₕ m₁ m₂ m₃ m₄ 2) (stop !)) (init ! 14 refl (tt, tt)) $
         assigns ! (addr ! (in-local refl (hop ! (look ! 20 refl) (fld ! refl (stop !)))))
-        (in-local (held 3) (stop !)) (init ! 12 refl (tt, tt)) $
+        (in-local (local_at bs l₀ l₁ lₕ m₁ m₂ m₃ m₄ 3) (stop !)) (init ! 12 refl (tt, tt)) $
         assigns ! (addr ! (in-local refl (hop ! (look ! 20 refl) (fld ! refl (stop !)))))
-        (in-local (held 4) (stop !)) (init ! 10 refl (tt, tt)) $
+        (in-local (local_at bs l₀ l₁ lₕ m₁ m₂ m₃ m₄ 4) (stop !)) (init ! 10 refl (tt, tt)) $
         share-all b o 𝓛 tt q' h (apart h is) (λ α₁ α₂ α₃ α₄ γ₁ γ₂ γ₃ γ₄.
         calling-apart head s₁ s₂ s₃ s₄ ps X Says' 𝓛 α₁ α₂ α₃ α₄ h.head
         (ref_to cells b (o + to_slots) h.slots γ₁) (ref_to cells b (o + to_lines) h.lines γ₂)
         (ref_to records b (o + to_offers) h.offers γ₃) (ref_to records b (o + to_carried) h.carried γ₄)
         (vptr b (o + to_slots)) (vptr b (o + to_lines)) (vptr b (o + to_offers)) (vptr b (o + to_carried)) x (fm_of 𝓤 H 𝓛.laws 𝓣) met
         (apart h is).of-head (good-across 1 (κ, tt) ps a are.1)
-        (reads-from 10 (and_then ! (load ! (in-local (held 0) (stop !)) (look ! 19 refl))
-        (and_then ! (load ! (in-local (held 1) (stop !)) (look ! 17 refl))
-        (and_then ! (load ! (in-local (held 2) (stop !)) (look ! 15 refl))
-        (and_then ! (load ! (in-local (held 3) (stop !)) (look ! 13 refl))
-        (and_then ! (load ! (in-local (held 4) (stop !)) (look ! 11 refl))
+        (reads-from 10 (and_then ! (load ! (in-local (local_at bs l₀ l₁ lₕ m₁ m₂ m₃ m₄ 0) (stop !)) (look ! 19 refl))
+        (and_then ! (load ! (in-local (local_at bs l₀ l₁ lₕ m₁ m₂ m₃ m₄ 1) (stop !)) (look ! 17 refl))
+        (and_then ! (load ! (in-local (local_at bs l₀ l₁ lₕ m₁ m₂ m₃ m₄ 2) (stop !)) (look ! 15 refl))
+        (and_then ! (load ! (in-local (local_at bs l₀ l₁ lₕ m₁ m₂ m₃ m₄ 3) (stop !)) (look ! 13 refl))
+        (and_then ! (load ! (in-local (local_at bs l₀ l₁ lₕ m₁ m₂ m₃ m₄ 4) (stop !)) (look ! 11 refl))
         (read_all ps bs φ x (params_at bs l₀ l₁ lₕ m₁ m₂ m₃ m₄))))))))
         (λ r e told fine.
         land ! (in-local refl (stop !)) (init ! 30 refl (X.typed 𝓛 r _ fine).0) $
@@ -186,7 +184,7 @@ module _ (X : Kind) (ps : List Kind) (F : Ring → Values ps → X.row.Denot) wh
         forget ! 15 refl $ keep ! (15 ∷ 16 ∷ 13 ∷ 14 ∷ 2 ∷ 11 ∷ 12 ∷ 9 ∷ 10 ∷ 7 ∷ 8 ∷ 5 ∷ 6 ∷ 3 ∷ 4 ∷ 17 ∷ 1 ∷ 0 ∷ []) $
         free1 ! $ free1 ! $ free_all ps bs x (free1 ! $ free1 ! $ free1 ! $ free1 ! $ free1 ! $ free0 ! $
         feq_i ! (List Val) (shr_vals s) (shr_vals s) refl $ fjoin3 ! $ move ! (1 ∷ 0 ∷ []) $
-        by ! (ends are.0 r (told ∙ ap (F h) (across-lift 4 _ ps x)) fine)))))))))))))))))))
+        by ! (ends are.0 r (told ∙ ap (F h) (across-lift 4 _ ps x)) fine))))))))))))))))))
 
   -- ---- the theorem: `key` and `env` are the function's, g and `called` the question's
   module _ {M : Type 1} {𝓤 : Ura M} (𝓛 : Logic 𝓤) where

@@ -10,10 +10,10 @@ use Rattle.command.specs.contracts.Command as K
 use Rattle.command.proofs.Command.TheLaws as K'
 use Rattle.command.specs.contracts.Question as Q
 use Rattle.command.proofs.Question.TheLaws as Q'
+use Rattle.network.specs.contracts.Answer as A
+use Rattle.network.proofs.Answer.TheLaws as A'
 use Rattle.network.specs.contracts.Dispatched as D
 use Rattle.network.proofs.Dispatched.TheLaws as D'
-use Rattle.network.specs.contracts.Finding as F
-use Rattle.network.proofs.Finding.TheLaws as F'
 use Rattle.network.specs.contracts.HeadDispatched as HD
 use Rattle.network.proofs.HeadDispatched.TheLaws as HD'
 use Rattle.network.specs.contracts.HeadStep as HS
@@ -47,8 +47,8 @@ command = struct_kind K.the_type K'.the_laws K'.the_plain K'.the_copy
 abbrev pub question : Kind
 question = enum_kind Q.the_type Q'.the_laws tt Q'.the_plain Q'.the_copy
 
-abbrev pub finding : Kind
-finding = enum_kind F.the_type F'.the_laws tt F'.the_plain F'.the_copy
+abbrev pub answer : Kind
+answer = enum_kind A.the_type A'.the_laws tt A'.the_plain A'.the_copy
 
 abbrev pub tasks : Kind
 tasks = enum_kind T.the_type T'.the_laws tt T'.the_plain T'.the_copy

@@ -25,7 +25,7 @@ ghost use Rattle.questions.specs.Tasks.{tasks_to, said_in, tasks_said};
 use batch::sending::{Fields, Scale};
 use command::{Command, Question};
 pub use dispatcher::dispatch;
-use network::{Finding, Reply, Ring};
+use network::{Answer, Reply, Ring};
 use numbers::{ChannelNo, NodeNo};
 use questions::Tasks;
 
@@ -47,7 +47,7 @@ pub fn perform(ring: &mut Ring, command: Command) -> Reply
 }
 
 // Asks any question.
-pub fn ask(ring: &Ring, question: Question) -> Finding
+pub fn ask(ring: &Ring, question: Question) -> Answer
     ensures { result ≡ answer_to (question_call question) ring.now }
 {
     questions::ask(
@@ -146,7 +146,7 @@ pub fn withdraw(ring: &mut Ring, channel: ChannelNo) -> Reply
 }
 
 // How many hops a channel's message, and the response to it, still have to go.
-pub fn hops_left(ring: &Ring, channel: ChannelNo) -> Finding
+pub fn hops_left(ring: &Ring, channel: ChannelNo) -> Answer
     ensures { result ≡ answer_to (Runs.hops_left channel) ring.now }
 {
     let question = command::hops_left(channel);
@@ -154,7 +154,7 @@ pub fn hops_left(ring: &Ring, channel: ChannelNo) -> Finding
 }
 
 // The channels on which a node's tasks wait, as a set of bits.
-pub fn waiting_set(ring: &Ring, node: NodeNo) -> Finding
+pub fn waiting_set(ring: &Ring, node: NodeNo) -> Answer
     ensures { result ≡ answer_to (Runs.waiting_set node) ring.now }
 {
     let question = command::waiting_set(node);
@@ -166,6 +166,6 @@ pub fn tasks_waiting(ring: &Ring, node: NodeNo) -> Tasks
     ensures { (result ≡ tasks_to node ring.now) × (said_in result ≡ tasks_said node ring.now) }
 {
     let question = command::waiting_set(node);
-    let finding = ask(ring, question);
-    questions::tasks_in(finding)
+    let answer = ask(ring, question);
+    questions::tasks_in(answer)
 }

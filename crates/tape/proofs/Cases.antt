@@ -8,7 +8,7 @@ use borrow.Author.Tests.{lt-ltb, le-ltb, eq-eqb, ne_eqb}
 use Rattle.refusal.specs.declared.Refusal.TheVariants.{UnknownCommand, CommandCut}
 use Rattle.tape.specs.declared.ReadAnswer.TheVariants.{Refused}
 use Rattle.tape.specs.Shape.{width_of}
-use Rattle.tape.specs.Table.{CommandRow, row_of, command_in}
+use Rattle.tape.specs.Table.{Row, row_of, command_in}
 use Rattle.tape.specs.Tape.{with_none, read_row, read_at}
 use Rattle.tape.specs.RoundTrip.{found}
 
@@ -18,7 +18,7 @@ pub by_row : (bytes : List ℕ) (place : ℕ) → place < length bytes
 unfolding read_at
 by_row bytes place h = rw (le-ltb (length bytes) place (omega arith), ne_eqb place (length bytes) (omega arith))
 
-module _ (r : CommandRow) (place : ℕ) (b : List ℕ) where
+module _ (r : Row) (place : ℕ) (b : List ℕ) where
   pub row-unknown : width_of r.shape ≡ 0 → read_row r place b ≡ with_none (Refused UnknownCommand)
   unfolding read_row
   row-unknown h = rw (eq-eqb (width_of r.shape) 0 h)

@@ -12,7 +12,6 @@ use borrow.Author.Tests.{ne_eqb, eqb-true}
 use lib.Dec.{eqb}
 use lib.ListN.{length, get_or, take, drop}
 use Rattle.batch.specs.declared.sending.Fields.{Fields}
-use Rattle.numbers.proofs.Splits.{by-test}
 use Rattle.batch.specs.declared.sending.Scale.TheVariants.{Tenths, Hundredths}
 use Rattle.wire.specs.Bytes.{number_at, Bytes}
 use Rattle.wire.specs.Record.{fields_in, FieldsFit}
@@ -22,20 +21,20 @@ use Rattle.command.specs.declared.Command.{Command}
 use Rattle.tape.specs.declared.Parts.{Parts}
 use Rattle.tape.specs.declared.Shape.{Shape}
 use Rattle.tape.specs.Shape.{width_of, fields_with, bytes_with}
-use Rattle.tape.specs.Table.{CommandRow, no_row, row_of, find, commands, parts_of, command_in, shape_of, plain, bytes_of, width}
+use Rattle.tape.specs.Table.{Row, no_row, row_of, find, commands, parts_of, command_in, shape_of, plain, bytes_of, width}
 use Rattle.tape.specs.RoundTrip.{OperandsFit}
 use Rattle.tape.proofs.Shapes.{has_first, has_second, fields-once, fields-written, length-with, first_read, second-read, fields_read, bytes-written}
 
 -- a byte that is none of the command bytes, in the form in which a `match` tells it
-abbrev OtherThan : ℕ → List CommandRow → Type 0 → Type 0
+abbrev OtherThan : ℕ → List Row → Type 0 → Type 0
 OtherThan code [] X = X
 OtherThan code (r ∷ rows) X = OtherThan code rows (X × (code ≢ r.code))
 
-before : (code : ℕ) (rows : List CommandRow) (X : Type 0) → OtherThan code rows X → X
+before : (code : ℕ) (rows : List Row) (X : Type 0) → OtherThan code rows X → X
 before code [] X n = n
 before code (r ∷ rows) X n = (before code rows (X × (code ≢ r.code)) n).0
 
-none_of : (code : ℕ) (rows : List CommandRow) (X : Type 0) → OtherThan code rows X → find code rows ≡ no_row code
+none_of : (code : ℕ) (rows : List Row) (X : Type 0) → OtherThan code rows X → find code rows ≡ no_row code
 unfolding find
 none_of code [] X n = refl
 none_of code (r ∷ rows) X n =
@@ -48,13 +47,13 @@ unknown code n = none_of code commands (Unit {0}) n
 -- ---- a row and the actions that it makes
 
 -- the action's command byte is the row's; written, it has the operands that it was made of; and it is made of no others
-record Fair (r : CommandRow) : Type 0 where
+record Fair (r : Row) : Type 0 where
   code_is : (a b : ℕ) → (parts_of (r.action a b)).code ≡ r.code
   written : (a b : ℕ) (x : Fields)
       → bytes_with r.shape (parts_of (r.action a b)) x ≡ bytes_with r.shape (record { code = r.code; first = a; second = b }) x
   no-others : (a b c d : ℕ) → r.action (cond (has_first r.shape) a c) (cond (has_second r.shape) b d) ≡ r.action a b
 
-abbrev pub All : (CommandRow → Type 0) → List CommandRow → Type 0
+abbrev All : (Row → Type 0) → List Row → Type 0
 All P [] = Unit {0}
 All P (r ∷ rows) = P r × All P rows
 
@@ -64,11 +63,11 @@ all_fair =
     (search rules, (search rules, (search rules, (search rules, (search rules, (search rules, (search rules, (search rules, (search rules, tt)))))))))
 
 -- the row that was found for a command byte
-record Found (code : ℕ) (r : CommandRow) : Type 0 where
+record Found (code : ℕ) (r : Row) : Type 0 where
   fair : Fair r
   code_of : r.code ≡ code
 
-find-fair : (code : ℕ) (rows : List CommandRow) → All Fair rows → 0 < width_of (find code rows).shape → Found code (find code rows)
+find-fair : (code : ℕ) (rows : List Row) → All Fair rows → 0 < width_of (find code rows).shape → Found code (find code rows)
 unfolding find
 find-fair code [] all some = absurd (lt_irrefl 0 some)
 find-fair code (r ∷ rows) all some = by_code (eqb code r.code) refl (find-fair code rows all.1) some
@@ -108,33 +107,11 @@ made (Enter node) = search rules
 made (Move node) = search rules
 made (Withdraw channel) = search rules
 
-pub made_again : (a : Action) → (row_of (parts_of a).code).action (parts_of a).first (parts_of a).second ≡ a
-made_again a = (made a).is
-
 pub some_bytes : (a : Action) → 0 < width_of (shape_of a)
 some_bytes a = (made a).some
 
 pub code-byte : (a : Action) → (parts_of a).code < 256
 code-byte a = (made a).byte
-
--- an action that a row makes has the operands that it is made of, or 0
-abbrev Kept : CommandRow → Type 0
-Kept r = (a b : ℕ) → a < 256 → b < 256 → OperandsFit (r.action a b)
-
-all-kept : All Kept commands
-unfolding commands
-all-kept =
-    (search rules, (search rules, (search rules, (search rules, (search rules, (search rules, (search rules, (search rules, (search rules, tt)))))))))
-
-find-kept : (code : ℕ) (rows : List CommandRow) → All Kept rows → Kept (find code rows)
-unfolding find
-find-kept code [] all = λ a b f g. search rules
-find-kept code (r ∷ rows) all =
-    by-test (eqb code r.code) (λ e. rw e all.0) λ e. rw e (find-kept code rows all.1)
-
-pub operands-kept : (code : ℕ) → Kept (row_of code)
-unfolding row_of
-operands-kept code = find-kept code commands all-kept
 
 -- a command is as many bytes as its width
 pub length-bytes_of : (c : Command) → FieldsFit c.fields → length (bytes_of c) ≡ width c

@@ -2,6 +2,5 @@
 pub mod Shapes
 pub mod CommandTable
 pub mod Cases
-pub mod Said
 pub mod RoundTrip
 pub mod SendExample

@@ -2,6 +2,5 @@
 pub mod Shape
 pub mod Table
 pub mod Tape
-pub mod Said
 pub mod RoundTrip
 pub mod SendExample

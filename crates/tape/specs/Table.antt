@@ -11,7 +11,7 @@ use Rattle.command.specs.declared.Action.{Action}
 use Rattle.command.specs.declared.Action.TheVariants.{AddNode, AddChannel, Start, Receive, Send, Enter, Move, Withdraw}
 use Rattle.command.specs.declared.Command.{Command}
 use Rattle.tape.specs.declared.Parts.{Parts}
-use Rattle.tape.specs.declared.CommandRow as found
+use Rattle.tape.specs.declared.Row as found
 use Rattle.tape.specs.declared.Shape.{Shape}
 use Rattle.tape.specs.declared.Shape.TheVariants.{Unknown, Bare, Byte, TwoBytes, ByteAndFields}
 use Rattle.wire.specs.Bytes.{number_at}
@@ -19,15 +19,15 @@ use Rattle.wire.specs.Record.{fields_in}
 use Rattle.tape.specs.Shape.{width_of, fields_with, bytes_with}
 
 -- a row of the table: the command byte, the shape, and the action that the operands of one byte make
-pub record CommandRow : Type 0 where
+pub record Row : Type 0 where
   pub code : ℕ
   pub shape : Shape
   pub action : ℕ → ℕ → Action
 
-abbrev row : ℕ → Shape → (ℕ → ℕ → Action) → CommandRow
+abbrev row : ℕ → Shape → (ℕ → ℕ → Action) → Row
 row code shape action = record { code = code; shape = shape; action = action }
 
-unfoldable pub commands : List CommandRow
+unfoldable pub commands : List Row
 commands =
     row 0x10 Byte (λ slots b. AddNode slots)
     ∷ row 0x11 TwoBytes (λ sender receiver. AddChannel (node_no sender) (node_no receiver))
@@ -60,22 +60,22 @@ parts_of (Move node) = parts 0x23 node.0 0
 parts_of (Withdraw channel) = parts 0x24 channel.0 0
 
 -- the row of a byte that no command has, and the row of a command byte
-abbrev pub no_row : ℕ → CommandRow
+abbrev pub no_row : ℕ → Row
 no_row code = row code Unknown (λ a b. Start)
 
-unfoldable pub find : ℕ → List CommandRow → CommandRow
+unfoldable pub find : ℕ → List Row → Row
 find code [] = no_row code
 find code (r ∷ rows) = cond (eqb code r.code) r (find code rows)
 
-unfoldable pub row_of : ℕ → CommandRow
+unfoldable pub row_of : ℕ → Row
 row_of code = find code commands
 
 -- a row with these operands, as the code has it
-abbrev pub row_with : CommandRow → ℕ → ℕ → found.CommandRow
+abbrev pub row_with : Row → ℕ → ℕ → found.Row
 row_with r first second = record { shape = r.shape; action = r.action first second }
 
 -- the command that bytes which begin with the row's command byte stand for
-unfoldable pub command_in : CommandRow → List ℕ → Command
+unfoldable pub command_in : Row → List ℕ → Command
 command_in r b = record {
   action = r.action (number_at 1 1 b) (number_at 2 1 b);
   fields = fields_with r.shape (fields_in (drop 2 b));

@@ -2,6 +2,7 @@
 -- "Read a command" and "Write a command". The refusals are 22 UnknownCommand, 23 CommandCut, 24 PlaceBeyondEnd and
 -- 26 NoRoomToWrite.
 use Rattle.std.specs.Prelude.{ℕ, ◌+◌, ◌-◌, cond, List, eqb, ltb, length, get_or, drop}
+use Rattle.refusal.specs.Number.{number_of}
 use Rattle.refusal.specs.declared.Refusal.TheVariants.{UnknownCommand, CommandCut, PlaceBeyondEnd, NoRoomToWrite}
 use Rattle.command.specs.declared.Action.TheVariants.{Start}
 use Rattle.command.specs.declared.Command.{Command}
@@ -14,14 +15,24 @@ use Rattle.tape.specs.declared.Writing.TheVariants as writing
 use Rattle.command.specs.Bare.{bare_of}
 use Rattle.wire.specs.Bytes.{overwritten}
 use Rattle.tape.specs.Shape.{width_of}
-use Rattle.tape.specs.Table.{CommandRow, row_of, command_in, width, bytes_of}
+use Rattle.tape.specs.Table.{Row, row_of, command_in, width, bytes_of}
+
+-- document 01's number for each case of an answer: that of the refusal, or 0
+abbrev pub read_number : ReadAnswer → ℕ
+read_number (Read next) = 0
+read_number End = 0
+read_number (answer.Refused r) = number_of r
+
+abbrev pub write_number : Writing → ℕ
+write_number (writing.Written next) = 0
+write_number (writing.Refused r) = number_of r
 
 -- an answer with no command: the blank one stands beside it
 abbrev pub with_none : ReadAnswer → Reading
 with_none a = record { answer = a; command = bare_of Start }
 
 -- reading bytes that begin with the command byte of a row, at a place: 22, 23, or the command and the next place
-unfoldable pub read_row : CommandRow → ℕ → List ℕ → Reading
+unfoldable pub read_row : Row → ℕ → List ℕ → Reading
 read_row r place b =
     cond (eqb (width_of r.shape) 0) (with_none (answer.Refused UnknownCommand))
     (cond (ltb (length b) (width_of r.shape)) (with_none (answer.Refused CommandCut))

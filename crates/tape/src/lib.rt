@@ -8,8 +8,7 @@ ghost use Rattle.command.specs.declared.Action.TheVariants.{Start};
 ghost use Rattle.tape.specs.declared.Shape.TheVariants.{Unknown};
 ghost use Rattle.tape.specs.Shape.{width_of, carries, fields_with, bytes_with};
 ghost use Rattle.tape.specs.Table.{row_of, row_with, send_code, parts_of};
-ghost use Rattle.tape.specs.Tape.{read_at, write_at, after_write, with_none};
-ghost use Rattle.tape.specs.Said.{said_in_read, read_said, said_in_write, write_said};
+ghost use Rattle.tape.specs.Tape.{read_at, write_at, after_write, with_none, read_number, write_number};
 ghost use Rattle.tape.specs.RoundTrip.{ReadsBack, WritesBack};
 
 use batch::sending::{Fields, Scale};
@@ -53,7 +52,7 @@ pub enum Shape {
 
 // A command byte's row of the table: the shape of its command, and the action that its operands make.
 #[derive(Drop)]
-pub struct CommandRow {
+pub struct Row {
     pub shape: Shape,
     pub action: Action,
 }
@@ -67,7 +66,7 @@ pub struct Parts {
 }
 
 // The table, to read: a line for each command.
-pub fn row_of(code: u8, first: u8, second: u8) -> CommandRow
+pub fn row_of(code: u8, first: u8, second: u8) -> Row
     ensures { result ≡ row_with (row_of code) first second }
 {
     match code {
@@ -93,14 +92,14 @@ pub fn row_of(code: u8, first: u8, second: u8) -> CommandRow
     }
 }
 
-fn with_shape(shape: Shape, action: Action) -> CommandRow
+fn with_shape(shape: Shape, action: Action) -> Row
     ensures { result ≡ record { shape = shape; action = action } }
 {
-    CommandRow { shape, action }
+    Row { shape, action }
 }
 
 // No command has this command byte.
-fn no_row() -> CommandRow
+fn no_row() -> Row
     ensures { result ≡ record { shape = Unknown; action = Start } }
 {
     with_shape(Shape::Unknown, Action::Start)
@@ -179,7 +178,7 @@ fn operand_at(bytes: &[u8], at: usize) -> u8
 }
 
 // The row of the command byte that the bytes begin with, with the operands that follow it.
-fn row_in(code: u8, bytes: &[u8]) -> CommandRow
+fn row_in(code: u8, bytes: &[u8]) -> Row
     ensures { result ≡ row_with (row_of code) (number_at 1 1 bytes.now) (number_at 2 1 bytes.now) }
 {
     let first = operand_at(bytes, 1);
@@ -211,7 +210,7 @@ fn without(answer: ReadAnswer) -> Reading
 pub fn read(bytes: &[u8], place: usize) -> Reading
     ensures answer { result ≡ read_at bytes.now place }
     ensures writes_back { WritesBack result.answer bytes.now place result.command }
-    ensures said { said_in_read result.answer result.command ≡ read_said bytes.now place }
+    ensures number { read_number result.answer ≡ read_number (read_at bytes.now place).answer }
 {
     if bytes.len() < place {
         return without(ReadAnswer::Refused(Refusal::PlaceBeyondEnd));
@@ -264,7 +263,7 @@ pub fn write(bytes: &mut [u8], place: usize, command: Command) -> Writing
     ensures answer { result ≡ write_at bytes.old place command }
     ensures buffer { bytes.new ≡ after_write result bytes.old place command }
     ensures reads_back { ReadsBack result bytes.new place command }
-    ensures said { said_in_write result ≡ write_said bytes.old place command }
+    ensures number { write_number result ≡ write_number (write_at bytes.old place command) }
 {
     if bytes.len() < place {
         return Writing::Refused(Refusal::PlaceBeyondEnd);

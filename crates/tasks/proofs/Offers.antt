@@ -27,11 +27,11 @@ use Rattle.network.specs.Runs
 use Rattle.network.specs.Layout.{view, held_outcome, call_ring, step_in}
 use Rattle.network.proofs.Memory.Held.{Fits}
 use Rattle.updates.specs.Flat.{appended, waiting_at, receiver_at, phase_at, offered_at, joined_head, phased_head, joined, phased, offered, responded}
-use Rattle.updates.specs.Known.{CanJoin, CanRespond, Responded, AtChannel}
+use Rattle.updates.specs.Known.{CanJoin, CanRespond, AtChannel}
 use Rattle.updates.specs.Answered.{done_step}
 use Rattle.updates.proofs.Openings.{sound-called, accepts, accepted-fits}
 use Rattle.updates.proofs.FlatLaws.{offered-held}
-use Rattle.updates.proofs.Messages.{asked-held, asked-room, Answerable, can-respond, responded-held, response-made}
+use Rattle.updates.proofs.Messages.{asked-held, asked-room, Answerable, can-respond, responded-held}
 use Rattle.updates.proofs.Reading.{channel-known, channel-there, channel-numbers, channel-running, resting-code, busy-code, ready-code, unready-code, none-flag, some-flag}
 
 module _ {ring : Ring} {k : ℕ} (h : AtChannel ring k) where
@@ -158,14 +158,8 @@ module _ {ring : Ring} {k : ℕ} (h : AtChannel ring k) where
           pub send-room : CanRespond ring.head k
           send-room = can-respond answerable (channel-known h).laid-out
 
-          send-responds : call_ring (Runs.send (channel_no k) x) ring ≡ accepted done (responded ring k x)
+          pub send-responds : call_ring (Runs.send (channel_no k) x) ring ≡ accepted done (responded ring k x)
           send-responds =
               send-in-memory
               ∙ ap held_outcome responds
               ∙ ap (accepted done) (sym (responded-held answerable (channel-known h).laid-out))
-
-          -- the same of what the code made of the record y, which is x
-          pub response-sent : {y : BatchRecord} {r : Head} {lines carried : List ℕ} {s : HeadStep} → y ≡ x →
-              Responded ring.head ring.lines ring.carried k y r lines carried → s ≡ done_step r →
-              step_in s ring.slots lines ring.offers carried ≡ step_of ring (call_ring (Runs.send (channel_no k) x) ring)
-          response-sent same made e = response-made ring ring (send-responds ∙ ap (λ z. accepted done (responded ring k z)) (sym same)) made e

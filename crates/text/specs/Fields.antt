@@ -1,5 +1,5 @@
--- What a line is made of, in bytes: a number or a name after a space.
-use Rattle.std.specs.Prelude.{ℕ, List, [], ◌∷◌}
+-- What a line is made of, in bytes: a number or a name after a space, and text laid over what stands in a buffer.
+use Rattle.std.specs.Prelude.{ℕ, ◌+◌, List, [], ◌∷◌, ◌++◌, length, take, drop}
 use Rattle.text.specs.Digits.{decimal}
 
 abbrev pub space : ℕ
@@ -13,3 +13,7 @@ field n = space ∷ decimal n
 abbrev pub name_field : List ℕ → List ℕ
 name_field [] = []
 name_field (byte ∷ bytes) = space ∷ byte ∷ bytes
+
+-- the buffer with these bytes at a place, and all else as it was
+abbrev pub laid : List ℕ → ℕ → List ℕ → List ℕ
+laid buffer place bytes = take place buffer ++ bytes ++ drop (place + length bytes) buffer

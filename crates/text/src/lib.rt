@@ -1,8 +1,8 @@
-// A line while it is built: bytes put one after another into a lent text, all else of it left as it was. Every function takes the place
-// where it begins and returns the place where it ends; it asks for the room that it needs, so none has to refuse.
+// A line while it is built: bytes put one after another into a lent text. Every function takes the place where it begins and
+// returns the place where it ends; it asks for the room that it needs, so none has to refuse.
 ghost use Rattle.std.specs.Prelude.{[], ◌∷◌, ◌≡◌, ◌+◌, ◌<◌, ◌≤◌, min, nat_abs, length, take};
 ghost use Rattle.text.specs.Digits.{decimal, hex_digit, hex2, signed};
-ghost use Rattle.text.specs.Fields.{space, field, name_field};
+ghost use Rattle.text.specs.Fields.{space, field, name_field, laid};
 ghost use Rattle.text.specs.Appends.{Appends};
 
 const SPACE: u8 = 0x20;
@@ -17,10 +17,11 @@ pub fn push(text: &mut [u8], at: usize, byte: u8) -> usize
     at + 1
 }
 
-// Several bytes; a whole line is put into the report by this too.
+// Several bytes. What stands after them is left as it was, so a whole line is put into the report by this too.
 pub fn push_all(text: &mut [u8], at: usize, bytes: &[u8]) -> usize
     requires { at + length bytes.now ≤ length text.old }
-    ensures { Appends text.old text.new at result bytes.now (length bytes.now) }
+    ensures appends { Appends text.old text.new at result bytes.now (length bytes.now) }
+    ensures text_after { text.new ≡ laid text.old at bytes.now }
 {
     let mut i = 0;
     while i < bytes.len() {

@@ -21,7 +21,7 @@ use Rattle.numbers.specs.declared.ChannelNo.{ChannelNo}
 use Rattle.numbers.specs.declared.NodeNo.{NodeNo}
 use Rattle.network.specs.declared.Ring.{Ring}
 use Rattle.network.specs.declared.HeadStep.{HeadStep}
-use Rattle.network.specs.Answers.{reply_of, step_of, finding_of}
+use Rattle.network.specs.Answers.{reply_of, step_of}
 use Rattle.network.specs.Counting.{one}
 use Rattle.network.specs.Network.{Network}
 use Rattle.network.specs.Calls.{Event, Outcome, done, refused, accepted, unless}
@@ -60,8 +60,8 @@ pub accepts : (ring : Ring) {next : Ring} {s : HeadStep} {o : Outcome Ring} → 
     step_in s next.slots next.lines next.offers next.carried ≡ step_of ring o
 accepts ring {next} law e = ap (λ s. step_in s next.slots next.lines next.offers next.carried) e ∙ ap (step_of ring) (sym law)
 
-pub found : {o o' : Outcome Ring} → o ≡ o' → finding_of o' ≡ finding_of o
-found law = ap finding_of (sym law)
+pub replies : {o o' : Outcome Ring} → o ≡ o' → (reply_of o').answer ≡ (reply_of o).answer
+replies law = ap (λ o. (reply_of o).answer) (sym law)
 
 -- a flag that stands for a test
 

@@ -10,8 +10,6 @@ use Rattle.c_structs.specs.contracts.Waiting as W
 use Rattle.c_structs.proofs.Waiting.TheLaws as W'
 use Rattle.c_structs.specs.contracts.BatchFigures as F
 use Rattle.c_structs.proofs.BatchFigures.TheLaws as F'
-use Rattle.c_structs.specs.contracts.RowBatch as B
-use Rattle.c_structs.proofs.RowBatch.TheLaws as B'
 use Rattle.c_structs.specs.contracts.Rounds as O
 use Rattle.c_structs.proofs.Rounds.TheLaws as O'
 
@@ -26,9 +24,6 @@ waiting = struct_kind W.the_type W'.the_laws W'.the_plain W'.the_copy
 
 abbrev pub batch-figures : Kind
 batch-figures = struct_kind F.the_type F'.the_laws F'.the_plain F'.the_copy
-
-abbrev pub row-batch : Kind
-row-batch = struct_kind B.the_type B'.the_laws B'.the_plain B'.the_copy
 
 abbrev pub rounds : Kind
 rounds = struct_kind O.the_type O'.the_laws O'.the_plain O'.the_copy

@@ -1,3 +1,1 @@
-pub mod Held
 pub mod Listed
-pub mod Version

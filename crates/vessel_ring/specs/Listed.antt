@@ -1,15 +1,13 @@
 -- The listing of a tape in a lent buffer.
-use Rattle.std.specs.Prelude.{ℕ, ◌+◌, ◌≤◌, ◌≡◌, List, [], ◌++◌, length, take, drop}
+use Rattle.std.specs.Prelude.{ℕ, ◌+◌, ◌<◌, ◌≤◌, ◌≡◌, List, [], ◌++◌, length, take, drop}
 use Rattle.report.specs.Line.{line_room}
-use Rattle.runner.specs.Listing.{listing_of, first_lines}
+use Rattle.runner.specs.Listing.{listing_of}
 
--- The first `written` bytes of the buffer are the first `count` lines of the listing, each whole; `left` is the listing after them, and the
--- rest of the buffer is as it was. Nothing is left where the buffer has room for a longest line behind what was written; so all of the
--- listing is there where the buffer has room for it and a longest line.
+-- The first `written` bytes of the buffer begin the listing, `left` is what had no room, and the rest of the buffer is as it was. Nothing
+-- is left where the buffer has room for a line more than was written; so all of the listing is there where the buffer has room for it and
+-- a line more.
 pub record Listed (tape before after : List ℕ) (written : ℕ) : Type 0 where
   pub within : written ≤ length before
-  pub count : ℕ
-  pub lines : take written after ≡ first_lines count tape
   pub left : List ℕ
   pub text : take written after ++ left ≡ listing_of tape
   pub rest : drop written after ≡ drop written before

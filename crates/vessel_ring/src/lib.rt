@@ -1,14 +1,13 @@
 // The ring for firmware, as C functions: include/vessel_ring.h has their types for C and says how to use them, and `rt staticlib
 // vessel_ring` writes the library. The ring calls go on a ring that the caller keeps and lends by pointer, those of the history on a
-// table likewise; beside them stand the reader and the writer of commands, the test for a sound ring, the record in a ring's bytes, the
-// listing of a tape and the version of all this. Every function takes every value: no byte of a ring, a table, a record, a command or a tape
-// is trusted, a refusal answers its number and leaves everything as it was.
+// table likewise; beside them stand the reader and the writer of commands, the test for a sound ring and the listing of a tape. Every
+// function takes every value: no byte of a ring, a table, a record, a command or a tape is trusted, a refusal answers its number and leaves
+// everything as it was.
 //
 // An exported call makes a command or a question of its numbers, hands the ring on to `site`, and tells the reply in numbers. One more takes
 // its maker in `c_structs` and the function here, with a proof that names the three functions; where its answer has a value that no other
-// has, a field of `AnswerNumbers` of `c_structs` and of the struct that it answers; its prototype in the header, a version and its lines in
-// docs/C-CHANGES.md, and its arm in tests/calls. One more command of the tape takes nothing here: `commands` of `c_structs` reads the tape's
-// own table.
+// has, a field of `AnswerNumbers` of `c_structs` and of the struct that it answers; its prototype in the header, and its arm in tests/calls. One more
+// command of the tape takes nothing here: `commands` of `c_structs` reads the tape's own table.
 ghost use Rattle.std.specs.Prelude.{◌≡◌};
 ghost use Rattle.refusal.specs.Number.{verdict_number};
 ghost use Rattle.batch.specs.declared.sending.Scale.TheVariants.{Tenths, Hundredths};
@@ -16,7 +15,6 @@ ghost use Rattle.batch.specs.Sending.{record_from};
 ghost use Rattle.convert.specs.TurnedRing.{turn_ring};
 ghost use Rattle.convert.specs.TurnedTable.{turn_table};
 ghost use Rattle.history.specs.History as History;
-ghost use Rattle.history.specs.Said.{note_said, close_said};
 ghost use Rattle.network.specs.Answers.{reply_of};
 ghost use Rattle.network.specs.Counting.{one};
 ghost use Rattle.network.specs.Dispatcher.{dispatch_step};
@@ -28,31 +26,16 @@ ghost use Rattle.tape.specs.Tape.{read_at};
 ghost use Rattle.c_structs.specs.Answers.{numbers_in, number_to, delivery_to, rounds_to, hops_left_in, waiting_in};
 ghost use Rattle.c_structs.specs.Commands.{reading_in, writing_to, after_writing};
 ghost use Rattle.vessel_ring.specs.Listed.{Listed};
-ghost use Rattle.vessel_ring.specs.Version.{version};
-ghost use Rattle.vessel_ring.specs.Held.{record_held};
-ghost use Rattle.c_structs.specs.Tables.{figures_to, batch_to};
+ghost use Rattle.c_structs.specs.Tables.{figures_in};
 
 use batch::BatchRecord;
 use batch::sending::Fields;
 use c_structs::{
-    BatchFigures, Command, Delivery, HopsLeft, Reading, Rounds, RowBatch, Waiting, Writing,
-    commands, tables,
+    BatchFigures, Command, Delivery, HopsLeft, Reading, Rounds, Waiting, Writing, commands, tables,
 };
 use history::Row;
 use network::Ring;
 use runner::Session;
-use wire;
-
-// Raised with each request that changes the interface; include/vessel_ring.h has the rule, docs/C-CHANGES.md what each brought.
-const VERSION: u32 = 301;
-
-// The version of the interface: the header's, which a firmware compares with it.
-#[unsafe(no_mangle)]
-pub extern "C" fn vessel_version() -> u32
-    ensures { result ≡ version }
-{
-    VERSION
-}
 
 #[unsafe(no_mangle)]
 pub extern "C" fn vessel_ring_fresh() -> Ring
@@ -167,8 +150,8 @@ pub extern "C" fn vessel_ring_hops_left(ring: &Ring, channel: u8) -> HopsLeft
     ensures { result ≡ hops_left_in (answer_to (Runs.hops_left (channel_no channel)) ring.now) }
 {
     let question = c_structs::hops_left(channel);
-    let finding = site::ask(ring, question);
-    c_structs::hops_in(finding)
+    let answer = site::ask(ring, question);
+    c_structs::hops_in(answer)
 }
 
 #[unsafe(no_mangle)]
@@ -176,8 +159,8 @@ pub extern "C" fn vessel_ring_waiting_set(ring: &Ring, node: u8) -> Waiting
     ensures { result ≡ waiting_in (answer_to (Runs.waiting_set (node_no node)) ring.now) }
 {
     let question = c_structs::waiting_set(node);
-    let finding = site::ask(ring, question);
-    c_structs::waiting_in(finding)
+    let answer = site::ask(ring, question);
+    c_structs::waiting_in(answer)
 }
 
 // 1 where the ring is sound, else 0.
@@ -199,21 +182,10 @@ pub extern "C" fn vessel_ring_to_hundredths(ring: &mut Ring) -> u8
     c_structs::refusal_in(reply)
 }
 
-// The record that lies in 40 bytes, as those of a ring's offers do; of fewer bytes, the blank one.
-#[unsafe(no_mangle)]
-pub extern "C" fn vessel_record_in(bytes: &[u8]) -> BatchRecord
-    ensures { result ≡ record_held bytes.now }
-{
-    if bytes.len() < wire::RECORD_LENGTH {
-        return BatchRecord::none();
-    }
-    wire::record_in(bytes)
-}
-
 #[unsafe(no_mangle)]
 pub extern "C" fn vessel_history_note(table: &mut [Row], record: BatchRecord) -> u8
     ensures { (table.new ≡ (History.note «record» table.old).table)
-        × (result ≡ note_said «record» table.old) }
+        × (result ≡ verdict_number (History.note «record» table.old).verdict) }
 {
     let verdict = history::note(table, record);
     verdict.number()
@@ -222,7 +194,7 @@ pub extern "C" fn vessel_history_note(table: &mut [Row], record: BatchRecord) ->
 #[unsafe(no_mangle)]
 pub extern "C" fn vessel_history_close(table: &mut [Row], batch: u32) -> u8
     ensures { (table.new ≡ (History.close batch table.old).table)
-        × (result ≡ close_said table.old) }
+        × (result ≡ verdict_number (History.close batch table.old).verdict) }
 {
     let batch = tables::batch_no(batch);
     let verdict = history::close(table, batch);
@@ -231,20 +203,11 @@ pub extern "C" fn vessel_history_close(table: &mut [Row], batch: u32) -> u8
 
 #[unsafe(no_mangle)]
 pub extern "C" fn vessel_history_figures(table: &[Row], batch: u32) -> BatchFigures
-    ensures { result ≡ figures_to batch table.now }
+    ensures { result ≡ figures_in (History.figures batch table.now) }
 {
     let batch = tables::batch_no(batch);
     let figures = history::figures_of(table, batch);
     tables::figures_in(figures)
-}
-
-// The batch of a row, 0 where the row is empty or the table has no such row.
-#[unsafe(no_mangle)]
-pub extern "C" fn vessel_history_batch(table: &[Row], row: usize) -> RowBatch
-    ensures { result ≡ batch_to row table.now }
-{
-    let batch = history::batch_in(table, row);
-    tables::batch_in(batch)
 }
 
 // A table in tenths of a degree, from before, into hundredths.
@@ -273,9 +236,8 @@ pub extern "C" fn vessel_tape_write(bytes: &mut [u8], place: usize, command: Com
     commands::write(bytes, place, command)
 }
 
-// Runs a tape from a fresh ring and writes its listing from the beginning of `out`, line by whole line, and stops where fewer bytes are left
-// than the longest line takes (`report::LINE_ROOM`). Answers how many bytes were written: all of the listing where `out` has room for it and
-// a longest line.
+// Runs a tape from a fresh ring and writes its listing from the beginning of `out`, as many whole lines as have room. Answers how many
+// bytes were written: all of the listing where `out` has room for one line (`report::LINE_ROOM`) more than that.
 #[unsafe(no_mangle)]
 pub extern "C" fn vessel_ring_list(tape: &[u8], out: &mut [u8]) -> usize
     ensures { Listed tape.now out.old out.new result }

@@ -1,16 +1,15 @@
 -- A good record fits its bytes: each clause of "good" bounds a field. So a good record is read back as it was written.
 use Prim.Native.Nat.{ℕ, zero, suc, ◌<◌, ◌^◌}
-use mathlib.Core.Path.{◌≡◌, refl}
+use mathlib.Core.Path.{◌≡◌}
 use mathlib.Core.Bool.{Bool, true, and-eq-true_iff}
 use mathlib.Core.List.{List, [], ◌∷◌}
 use native.Mathlib.Omega.{arith}
 use lib.Dec.{eqb, leb, ltb, lit<}
 use lib.IntN.{ℤ, pos, negsuc}
 use lib.Signed.{mag, le_z}
-use lib.ListN.{length, get_or, take, drop, replicate, take-append-drop}
+use lib.ListN.{length, take, drop, take-append-drop}
 use borrow.Author.Tests.{leb-true, ltb-true, eqb-true}
 use Rattle.batch.specs.declared.BatchRecord.{BatchRecord}
-use Rattle.batch.specs.Blank.{no_record}
 use Rattle.batch.specs.Good.{every, is_zero, is_character, first_character, last_character, coldest, hottest, name_limit}
 use Rattle.batch.specs.Good.{name_cells_good, temp_good, name_length_good, name_good, widths_good, good_record}
 use Rattle.batch.proofs.Good.{good-clauses}
@@ -55,22 +54,4 @@ good-fits r e =
       name-length = omega (arith, leb-true r.name_length name_limit passes.size);
       name-width = eqb-true (length r.name) name_limit cells.1;
       name = name-bytes r.name_length r.name passes.name;
-    }
-
--- the blank record fits too
-pub blank-byte : (n i : ℕ) → get_or (replicate n 0) i 0 < 256
-blank-byte zero i = lit< tt
-blank-byte (suc n) zero = lit< tt
-blank-byte (suc n) (suc i) = blank-byte n i
-
-pub blank-fits : RecordFits no_record
-unfolding no_record
-blank-fits =
-    record {
-      batch = omega arith;
-      vessel = omega arith;
-      temperature = omega arith;
-      name-length = omega arith;
-      name-width = refl;
-      name = blank-byte name_limit;
     }

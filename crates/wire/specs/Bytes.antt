@@ -1,6 +1,5 @@
--- Numbers as bytes, low byte first, and signed numbers as 16 bits in two's complement; bytes are put into a buffer by `overwritten`.
-use Rattle.std.specs.Prelude.{ℕ, zero, suc, ◌+◌, ◌-◌, ◌*◌, ◌/◌, ◌%◌, ◌<◌, ◌≡◌, cond, List, [], ◌∷◌, ltb, ℤ, pos, negsuc, get_or, take, drop}
-unfoldable pub use Rattle.batch.specs.Buffer.{overwritten}
+-- Numbers as bytes, low byte first; signed numbers as 16 bits in two's complement; and bytes put into a buffer.
+use Rattle.std.specs.Prelude.{ℕ, zero, suc, ◌+◌, ◌-◌, ◌*◌, ◌/◌, ◌%◌, ◌<◌, ◌≡◌, cond, List, [], ◌∷◌, ◌++◌, ltb, ℤ, pos, negsuc, length, get_or, take, drop}
 
 -- the n lowest bytes of a number, low byte first
 unfoldable pub little : ℕ → ℕ → List ℕ
@@ -27,6 +26,10 @@ twos (negsuc n) = 65536 - (n + 1)
 -- the number that 16 bits stand for in two's complement
 unfoldable pub signed : ℕ → ℤ
 signed n = cond (ltb n 32768) (pos n) (negsuc (65535 - n))
+
+-- the buffer with new bytes from a place on, all else as it was
+unfoldable pub overwritten : List ℕ → ℕ → List ℕ → List ℕ
+overwritten buffer place new = take place buffer ++ new ++ drop (place + length new) buffer
 
 -- each element is a byte, as in every slice of them
 abbrev pub Bytes : List ℕ → Type 0

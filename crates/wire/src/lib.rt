@@ -5,7 +5,6 @@ pub mod fields;
 
 ghost use Rattle.std.specs.Prelude.{◌≡◌, ◌+◌, ◌≤◌, length, drop};
 ghost use Rattle.batch.specs.Good.{name_limit, good_record};
-ghost use Rattle.batch.specs.Sending.{same_numbers};
 ghost use Rattle.wire.specs.Bytes.{part, overwritten};
 ghost use Rattle.wire.specs.Record.{record_length, record_bytes, record_in, field_bytes, fields_in};
 
@@ -49,27 +48,14 @@ pub fn fields_in(bytes: &[u8]) -> Fields
     }
 }
 
-// The record of the same numbers: one that is kept is read as it stands, its temperature neither tested nor made.
-fn kept(fields: Fields) -> BatchRecord
-    ensures { result ≡ same_numbers fields }
-{
-    let batch = fields.batch;
-    let name = fields.name;
-    BatchRecord {
-        batch,
-        vessel: fields.vessel,
-        temperature: fields.temperature,
-        name_length: fields.name_length,
-        name,
-    }
-}
-
-// The record that the bytes begin with, whatever they are.
+// The record that the bytes begin with: its temperature is in hundredths.
 pub fn record_in(bytes: &[u8]) -> BatchRecord
     requires { record_length ≤ length bytes.now }
     ensures { result ≡ record_in bytes.now }
 {
-    kept(fields_in(bytes))
+    let fields = fields_in(bytes);
+    let temperature = fields.temperature;
+    sending::record_with(fields, temperature)
 }
 
 // The record at a place.

@@ -48,6 +48,6 @@ impl Lists {
             highest = highest.max(reading);
             sum += i32::from(reading);
         }
-        Figures { sum, lowest, highest, refusal: 0, held: 1, count: last.len() as u16 }
+        Figures { sum, lowest, highest, refusal: 0, held: 1 }
     }
 }

@@ -30,13 +30,12 @@ struct Batch {
     readings: VecDeque<i16>,
 }
 
-/// "their lowest, highest and sum", and how many readings they are of.
+/// "their lowest, highest and sum"
 #[derive(Clone, Copy, PartialEq, Eq, Debug)]
 pub struct Figures {
     pub lowest: i16,
     pub highest: i16,
     pub sum: i32,
-    pub count: usize,
 }
 
 /// 128 rows, each empty or in use.
@@ -115,14 +114,7 @@ impl History {
             lowest: *readings.iter().min()?,
             highest: *readings.iter().max()?,
             sum: readings.iter().map(|&reading| i32::from(reading)).sum(),
-            count: readings.len(),
         })
-    }
-
-    /// The batch of a row; nothing for an empty row, and for one that a table of 128
-    /// rows does not have.
-    pub fn batch(&self, row: usize) -> Option<BatchNumber> {
-        self.rows.get(row)?.as_ref().map(|batch| batch.number)
     }
 
     /// Nothing for batch number 0, which "never has a row".

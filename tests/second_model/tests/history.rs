@@ -36,11 +36,7 @@ fn note_all(history: &mut History, batch: u32, temperatures: impl IntoIterator<I
 /// (lowest, highest, sum)
 fn figures(history: &History, batch: u32) -> Option<(i16, i16, i32)> {
     let figures = history.figures(BatchNumber(batch));
-    figures.map(|Figures { lowest, highest, sum, .. }| (lowest, highest, sum))
-}
-
-fn count(history: &History, batch: u32) -> Option<usize> {
-    history.figures(BatchNumber(batch)).map(|figures| figures.count)
+    figures.map(|Figures { lowest, highest, sum }| (lowest, highest, sum))
 }
 
 /// Batches 1 to 128, one reading each.
@@ -68,25 +64,6 @@ fn the_oldest_makes_way() {
     note_all(&mut history, 7, [25]);
     assert_eq!(history.table()[0], row(7, &Vec::from_iter(2..=25)));
     assert_eq!(figures(&history, 7), Some((2, 25, 324)));
-}
-
-#[test]
-fn the_readings_are_counted() {
-    let mut history = History::empty();
-    assert_eq!(count(&history, 7), None);
-    for noted in 1..=30 {
-        note_all(&mut history, 7, [0]);
-        assert_eq!(count(&history, 7), Some(noted.min(24)));
-    }
-}
-
-#[test]
-fn the_batches_row_by_row() {
-    let mut history = full();
-    history.close(BatchNumber(2));
-    let batches: Vec<Option<u32>> = (0..130).map(|row| history.batch(row).map(|batch| batch.0)).collect();
-    assert_eq!(batches[..3], [Some(1), None, Some(3)]);
-    assert_eq!(batches[126..], [Some(127), Some(128), None, None]);
 }
 
 #[test]

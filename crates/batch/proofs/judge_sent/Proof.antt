@@ -7,21 +7,19 @@ use Rattle.refusal.specs.declared.Verdict.TheVariants.{Passed}
 use Rattle.refusal.specs.Number.{verdict_number}
 use Rattle.refusal.proofs.Verdicts.{no-refusal}
 use Rattle.batch.specs.declared.BatchRecord.{BatchRecord}
-use Rattle.batch.specs.Good.{verdict_of, send_verdict, blank_ends, name_length_good}
-use Rattle.batch.specs.Said.{send_said}
+use Rattle.batch.specs.Good.{verdict_of, blank_ends, name_length_good}
 use Rattle.batch.proofs.Good as good
-use Rattle.batch.proofs.Said.{records-said}
 use Rattle.batch.proofs.judge_sent.Statement.{statement}
 use Rattle.batch.proofs.judge_sent.Tie as tie
 
 -- both clauses of the contract
-answered : (r : BatchRecord) {v : Verdict} → v ≡ send_verdict r → (v ≡ send_verdict r) × (verdict_number v ≡ send_said r)
-answered r e = (e, ap verdict_number e ∙ (records-said r).1)
+answered : {v w : Verdict} → v ≡ w → (v ≡ w) × (verdict_number v ≡ verdict_number w)
+answered e = (e, ap verdict_number e)
 
 returns : tie.Need-returns
 returns c =
     let told = c.before in
-    answered _ (sym (good.sent-bad _ _ (sym told.before.before.judge.ensures.0 ∙ told.verdict.given.1)))
+    answered (sym (good.sent-bad _ _ (sym told.before.before.judge.ensures.0 ∙ told.verdict.given.1)))
 
 -- the record is good
 module _ (c : tie.After-enum-told) where
@@ -44,12 +42,12 @@ ends c = c.blank-at-end.ensures
 returns-2 : tie.Need-returns-2
 returns-2 c =
     let judged = c.before.before.before.before in
-    answered _ (sym (good.sent-blank _ (is-good judged) (sym (ends c.before) ∙ c.if1.true)))
+    answered (sym (good.sent-blank _ (is-good judged) (sym (ends c.before) ∙ c.if1.true)))
 
 returns-3 : tie.Need-returns-3
 returns-3 c =
     let judged = c.before.before.before.before in
-    answered _ (sym (good.sent-taken _ (is-good judged) (sym (ends c.before) ∙ c.if1.false)))
+    answered (sym (good.sent-taken _ (is-good judged) (sym (ends c.before) ∙ c.if1.false)))
 
 pub judge-sent-spec : {M : Type 1} → statement M
 judge-sent-spec =

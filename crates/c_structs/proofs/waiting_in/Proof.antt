@@ -5,4 +5,4 @@ use Rattle.c_structs.proofs.waiting_in.Tie as tie
 
 pub waiting-in-spec : {M : Type 1} → statement M
 waiting-in-spec =
-    tie.close (tie.spec (λ c κs. search rules) (λ c κs. search rules) (λ c. rw (c.waiting-tasks.ensures, c.before.found_in.ensures)))
+    tie.close (tie.spec (λ c κs. search rules) (λ c κs. search rules) (λ c. rw (c.waiting-tasks.ensures, c.before.numbers-in.ensures)))

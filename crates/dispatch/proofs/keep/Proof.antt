@@ -9,7 +9,7 @@ use lib.ListN.{length}
 use borrow.Author.Rules.{rules}
 use Rattle.batch.specs.declared.BatchRecord.{BatchRecord}
 use Rattle.network.specs.declared.Answer.{Answer}
-use Rattle.network.specs.declared.Answer.TheVariants.{Done, Delivered, Refused}
+use Rattle.network.specs.declared.Answer.TheVariants.{Done, Delivered, Hops, Waiting, Refused}
 use Rattle.network.specs.Answers.{delivered_in}
 use Rattle.network.specs.Dispatch.{listed}
 use Rattle.network.specs.Layout.{channel_room}
@@ -18,10 +18,12 @@ use Rattle.dispatch.proofs.keep.Statement.{statement}
 use Rattle.dispatch.proofs.keep.Tie as tie
 
 -- an answer that is no delivery
-nothing-told : (a : Answer) (x : BatchRecord) → OneOf (0 ∷ 2 ∷ []) (tag_of the_type a) →
+nothing-told : (a : Answer) (x : BatchRecord) → OneOf (0 ∷ 2 ∷ 3 ∷ 4 ∷ []) (tag_of the_type a) →
     listed (delivered_in (record { answer = a; delivered = x })) ≡ []
 nothing-told Done x k = refl
-nothing-told (Delivered c) x k = absurd (miss (0 ∷ 2 ∷ []) 1 tt k)
+nothing-told (Delivered c) x k = absurd (miss (0 ∷ 2 ∷ 3 ∷ 4 ∷ []) 1 tt k)
+nothing-told (Hops h) x k = refl
+nothing-told (Waiting w) x k = refl
 nothing-told (Refused r) x k = refl
 
 -- where one is told there is a place for it

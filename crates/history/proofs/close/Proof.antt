@@ -1,11 +1,11 @@
 -- `history::close` meets its contract: it is a call on a lent slice (Noting.antt of `lent`) over `begin`, `seen` and `to_close`, and what it
--- does is what the definition says (Said.antt).
+-- does is what the definition says (Passing.antt).
 use mathlib.Core.List.{[], ◌∷◌}
 use base.Logic.{emp}
 use contract.Monad.{fact_i}
 use Rattle.lent.proofs.Noting.{note-meets}
 use Rattle.history.specs.Search.{begin_at, seen_at, to_close}
-use Rattle.history.proofs.Said.{close-says}
+use Rattle.history.proofs.Passing.{close_passed}
 use Rattle.history.proofs.Types.{batch-no, searched, verdict, row, decision}
 use Rattle.history.proofs.begin.Symbol as begins
 use Rattle.history.proofs.begin.Met as begin-thm
@@ -23,7 +23,7 @@ unfolding code.routine
 close_spec 𝓤 𝓛 𝓜 𝓡 =
     note-meets (batch-no ∷ []) row searched verdict decision (λ x. begin_at x.0) seen_at (λ s x. to_close s x.0) 𝓛 𝓜 𝓡
     (λ κs a. (close.clauses 𝓛 𝓜.mem 𝓡.run κs a).ensures tt)
-    (λ κs a ws is. fact_i 𝓤 _ (emp 𝓤) (close-says a.0.now is.0.1.0 a.1.0))
+    (λ κs a ws is. fact_i 𝓤 _ (emp 𝓤) (close_passed a.0.now is.0.1.0 a.1.0))
     code.env name begins.name sees.name cores.name begins.routine sees.routine cores.routine (code.unfolded 𝓤 𝓛.H 𝓜 𝓡)
     code.calls-history::begin code.calls-history::seen code.calls-history::to-close
     (begin-thm.met 𝓤 𝓛 𝓜 𝓡) (seen-thm.met 𝓤 𝓛 𝓜 𝓡) (core-thm.met 𝓤 𝓛 𝓜 𝓡)

@@ -19,7 +19,7 @@ use Rattle.history.proofs.summed.Tie as tie
 abbrev invariant-loop : tie.invariant-loop
 invariant-loop cells n lowest₀ highest₀ sum₀ i₀ lowest highest sum i =
     (1 ≤ i) × (i ≤ n) × (mag (to_z w32 sum) < i * 2 ^ 15)
-    × (figures_of (take n cells) ≡ told_from n (to_z w16 lowest) (to_z w16 highest) (to_z w32 sum) (drop i (take n cells)))
+    × (figures_of (take n cells) ≡ told_from (to_z w16 lowest) (to_z w16 highest) (to_z w32 sum) (drop i (take n cells)))
 
 abbrev decreases-loop : tie.decreases-loop
 decreases-loop cells n lowest₀ highest₀ sum₀ i₀ lowest highest sum i = n - i
@@ -102,9 +102,6 @@ loop-again c =
           (at-loop c).loop.i (omega arith)),
     )
 
-cast-count : tie.Need-overflow-cast-count invariant-loop decreases-loop
-cast-count c = record { fits = omega (arith, c.before.before.before.requires) }
-
 returns : tie.Need-returns invariant-loop decreases-loop
 returns c =
     let l = c.before in
@@ -116,4 +113,4 @@ pub summed-spec : {M : Type 1} → statement M
 summed-spec =
     tie.close
     (tie.spec invariant-loop decreases-loop (λ c. omega arith) cast-sum loop-holds (λ c. omega arith) (λ c. omega arith) (λ c κs. search rules) (λ c κs. search rules)
-    cast-sum-2 add-sum (λ c. omega arith) (λ c. omega arith) loop-again cast-count returns)
+    cast-sum-2 add-sum (λ c. omega arith) (λ c. omega arith) loop-again returns)

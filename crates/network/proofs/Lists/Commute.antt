@@ -9,7 +9,7 @@ use mathlib.Core.List.{List, [], ◌∷◌, ◌++◌, nil≢cons}
 use mathlib.Core.Option.{Option, none, some}
 use native.Mathlib.Omega.{arith}
 use lib.Dec.{ltb}
-use lib.ListN.{length, get_or, set, get_or-eq_default}
+use lib.ListN.{length, get_or, set}
 use lib.Seq.{get_or-set_other}
 use borrow.Author.Tests.{lt-ltb, le-ltb}
 use Rattle.refusal.specs.declared.Refusal.{Refusal}
@@ -22,13 +22,14 @@ use Rattle.network.specs.Network.{Network, NodeState, ChannelState, Phase, resti
 use Rattle.network.specs.Sound.{Limits, next_count}
 use Rattle.network.specs.Calls.{Event, done, delivered, Outcome, refused, accepted, unless, Arrival, taken, passing, arrived, arrival, arrival_of, hand_over, move_first, enter_first, leave}
 use Rattle.network.specs.Calls
-use Rattle.network.specs.Runs.{Call, is_traffic, call, after}
+use Rattle.network.specs.Runs.{Call, call, after}
 use Rattle.network.specs.Answers.{reply_of}
 use Rattle.network.specs.Commute.{Traffic, entry_at, move_at, as_call, own, Touches, Apart, Commute}
 use Rattle.network.proofs.Ground.Splits.{by_less}
 use Rattle.network.proofs.Ground.Counting.{count_same, one-most, weigh-cons}
 use Rattle.network.proofs.Theory.Place.{sum-two}
 use Rattle.network.proofs.Theory.Kept.{first-moving}
+use Rattle.network.proofs.Theory.Todo.{goes}
 use Rattle.network.proofs.Lists.Tables.{net_of, state_of}
 use Rattle.network.proofs.Lists.Clauses.{Started}
 use Rattle.network.proofs.Lists.Accepted.{ArrivesAs, is-taken, is-arrived, is-passing, arrives-as, next-elsewhere}
@@ -383,32 +384,12 @@ module _ (L : Limits) where
   Commutes σ a b = Commute (call L) (as_call a) (as_call b) σ
 
   -- no entry and no move changes the number of nodes
-  traffic-goes : (g : Traffic) → is_traffic (as_call g) ≡ true
+  traffic-goes : (g : Traffic) → goes (as_call g) ≡ true
   traffic-goes (entry_at p) = refl
   traffic-goes (move_at p) = refl
 
   same_count : (σ : Network) → Started L σ → (g : Traffic) → count_of_nodes (after σ (call L (as_call g) σ)) ≡ count_of_nodes σ
   same_count σ s g = ap (λ N. N.n) (went L σ s (as_call g) (traffic-goes g)).same-net
-
-  -- a node that it does not touch stays
-  pub leaves-node : (σ : Network) → Started L σ → (g : Traffic) (q : NodeNo) → (Touches (count_of_nodes σ) g q → ⊥) →
-      node (after σ (call L (as_call g) σ)) q ≡ node σ q
-  leaves-node σ s g q apart =
-      let τ : Network = after σ (call L (as_call g) σ) in
-      let not_there : (p : NodeNo) → Touches (count_of_nodes σ) g p → q.0 ≢ p.0 =
-      λ p at e. apart (subst (Touches (count_of_nodes σ) g) (sym (ap node_no e)) at) in
-      let not_own : q.0 ≢ (own g).0 = not_there (own g) (touches-own (count_of_nodes σ) g) in
-      let not-far : q.0 ≢ (far (count_of_nodes σ) g).0 = not_there (far (count_of_nodes σ) g) (touches-far (count_of_nodes σ) g) in
-      by_less (own g).0 (count_of_nodes σ)
-      (λ there.
-      by_less q.0 (count_of_nodes σ)
-      (λ within.
-      ap (λ o. node (after σ o) q) (planned σ s g q.0 there within (λ e. not-far (sym e)))
-      ∙ kept-node σ (plan-stays g σ) q not_own not-far)
-      (λ beyond.
-      let past : count_of_nodes τ ≤ q.0 = omega (arith, beyond, same_count σ s g) in
-      get_or-eq_default τ.nodes no_node past ∙ sym (get_or-eq_default σ.nodes no_node beyond)))
-      (λ nowhere-there. ap (λ o. node (after σ o) q) (beyond-refused σ s.running g nowhere-there))
 
   -- after b, a is as it was
   module _ (σ : Network) (s : Started L σ) (a b : Traffic) (la : (own a).0 < count_of_nodes σ) (lb : (own b).0 < count_of_nodes σ)

@@ -9,14 +9,14 @@ use lib.ListN.{length}
 use Rattle.batch.specs.Good.{good_record}
 use Rattle.numbers.specs.declared.ChannelNo.{ChannelNo}
 use Rattle.network.specs.Counting.{one, sum}
-use Rattle.network.specs.Network.{Network, channel_no, count_of_channels, channel, moving, on_ring}
+use Rattle.network.specs.Network.{Network, channel_no, count_of_channels, channel, moving}
 use Rattle.network.specs.Sound.{Limits}
 use Rattle.network.specs.Calls.{Delivery, Outcome}
-use Rattle.network.specs.Runs.{Call, is_traffic, add_node, add_channel, start, receive, send, enter, move, withdraw, hops_left, waiting_set, call, after, is_accepted, delivered_by}
-use Rattle.network.specs.Dispatch.{handed_by}
+use Rattle.network.specs.Runs.{Call, add_node, add_channel, start, receive, send, enter, move, withdraw, hops_left, waiting_set, call, after, is_accepted, delivered_by}
+use Rattle.network.specs.Dispatch.{on_ring, handed_by}
 use Rattle.network.proofs.Ground.Counting.{sum-le, sum_ones, one-most}
 use Rattle.network.proofs.Theory.State.{Net}
-use Rattle.network.proofs.Theory.Todo.{message, turn-did, messages-turn, message-turn, good_turn, todo, todo-falls}
+use Rattle.network.proofs.Theory.Todo.{goes, message, turn-did, messages-turn, message-turn, good_turn, todo, todo-falls}
 use Rattle.network.proofs.Lists.Tables.{net_of, state_of}
 use Rattle.network.proofs.Lists.Clauses.{Started}
 use Rattle.network.proofs.Lists.Outcomes.{After, not-done, was-done}
@@ -46,7 +46,7 @@ pub record AfterTry (L : Limits) (σ : Network) (o : Outcome Network) : Type 0 w
   pub good : (d : Delivery) → handed_by o ≡ d ∷ [] → good_record d.«record» ≡ true
 
 module _ (L : Limits) (σ : Network) (s : Started L σ) where
-  tried-did : (a : Call) → is_traffic a ≡ true → After (Stepped σ a) (call L a σ)
+  tried-did : (a : Call) → goes a ≡ true → After (Stepped σ a) (call L a σ)
   tried-did (add_node slots) g = absurd (false≢true g)
   tried-did (add_channel p q) g = absurd (false≢true g)
   tried-did start g = absurd (false≢true g)
@@ -58,7 +58,7 @@ module _ (L : Limits) (σ : Network) (s : Started L σ) where
   tried-did (hops_left k) g = absurd (false≢true g)
   tried-did (waiting_set p) g = absurd (false≢true g)
 
-  went-after : {a : Call} {o : Outcome Network} → is_traffic a ≡ true → After (Stepped σ a) o → AfterTry L σ o
+  went-after : {a : Call} {o : Outcome Network} → goes a ≡ true → After (Stepped σ a) o → AfterTry L σ o
   went-after g not-done =
       record {
         started = s;
@@ -80,5 +80,5 @@ module _ (L : Limits) (σ : Network) (s : Started L σ) where
         good = good_turn (net_of σ) s.tables turned;
       }
 
-  pub went : (a : Call) → is_traffic a ≡ true → AfterTry L σ (call L a σ)
+  pub went : (a : Call) → goes a ≡ true → AfterTry L σ (call L a σ)
   went a g = went-after g (tried-did a g)

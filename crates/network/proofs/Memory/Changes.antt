@@ -16,7 +16,7 @@ use Rattle.network.specs.declared.Ring.{Ring}
 use Rattle.network.specs.declared.Head.{Head}
 use Rattle.network.specs.Counting.{one, tabulate}
 use Rattle.network.specs.Network.{Network, NodeState, ChannelState, Phase, resting, node_no, channel_no, count_of_nodes, count_of_channels, no_node, no_channel, node, channel, with_node, with_channel, with_new_node, with_new_channel, with_started}
-use Rattle.network.specs.Layout.{node_room, channel_room, row_length, rows, cells_of, phase_code, offered_flag, offer_bytes, carried_bytes, hold_head, hold, Counts, head_of, nodes_in, channels_in, with_nodes, with_channels, ring_in}
+use Rattle.network.specs.Layout.{node_room, channel_room, row_length, rows, cells_of, phase_code, offered_flag, offer_bytes, carried_bytes, hold_head, hold, head_of, with_nodes, with_channels, ring_in}
 use Rattle.network.proofs.Ground.Splits.{by-same, by_less}
 use Rattle.network.proofs.Memory.Rows.{tabulate-same, tabulate-put, rows_same, rows-put, put_row, getD-snoc-same}
 use Rattle.network.proofs.Lists.Tables.{set-alike}
@@ -83,10 +83,6 @@ module _ {ℓ} {A : Type ℓ} (nothing : A) (n : ℕ) (xs : List A) where
     pub cells-snoc-left : (w : ℕ) (f : A → List ℕ) → f s ≡ f nothing → cells w f (xs ++ (s ∷ [])) ≡ cells w f xs
     cells-snoc-left w f e = rows_same w n _ _ (λ i m. getD-snoc-same f xs s nothing i e)
 
--- the counts of a ring with so many nodes and channels
-abbrev counts : Network → ℕ → ℕ → Counts
-counts σ n c = record { deliveries = σ.deliveries; started = one σ.started; nodes = n; channels = c; spare = 0 }
-
 module _ (σ : Network) (fits : Fits σ) where
   -- one node is another with the same slots
 
@@ -105,14 +101,10 @@ module _ (σ : Network) (fits : Fits σ) where
     hold-with-node eu ew et es el =
         λ i.
         ring_in
-        (head_of (counts σ (length-set σ.nodes p another i) (count_of_channels σ))
-        (record {
-          capacity = numbers-left no_node node_room σ.nodes p another l (λ s. s.slots) refl i;
-          used = eu i;
-          waiting = ew i;
-          marks = et i;
-        })
-        (channels_in (hold σ).head))
+        (head_of σ.deliveries (one σ.started) (length-set σ.nodes p another i) (count_of_channels σ) 0
+        (numbers-left no_node node_room σ.nodes p another l (λ s. s.slots) refl i)
+        (eu i) (ew i) (et i)
+        (hold σ).head.senders (hold σ).head.receivers (hold σ).head.phases (hold σ).head.offered)
         (es i) (el i) (hold σ).offers (hold σ).carried
 
     pub fits-with-node : length xs ≤ row_length → length ys ≤ row_length → Fits (with_node (node_no p) xs ys m σ)
@@ -143,14 +135,11 @@ module _ (σ : Network) (fits : Fits σ) where
     hold-with-channel ep eo ef ec =
         λ i.
         ring_in
-        (head_of (counts σ (count_of_nodes σ) (length-set σ.channels k other i))
-        (nodes_in (hold σ).head)
-        (record {
-          senders = numbers-left no_channel channel_room σ.channels k other l (λ s. s.sender.0) refl i;
-          receivers = numbers-left no_channel channel_room σ.channels k other l (λ s. s.receiver.0) refl i;
-          phases = ep i;
-          offered = eo i;
-        }))
+        (head_of σ.deliveries (one σ.started) (count_of_nodes σ) (length-set σ.channels k other i) 0
+        (hold σ).head.capacity (hold σ).head.used (hold σ).head.waiting (hold σ).head.marks
+        (numbers-left no_channel channel_room σ.channels k other l (λ s. s.sender.0) refl i)
+        (numbers-left no_channel channel_room σ.channels k other l (λ s. s.receiver.0) refl i)
+        (ep i) (eo i))
         (hold σ).slots (hold σ).lines (ef i) (ec i)
 
     pub fits-with-channel : OfferFits o → CarriedFits f → Fits (with_channel (channel_no k) f o σ)
@@ -169,10 +158,7 @@ module _ (σ : Network) (fits : Fits σ) where
 -- the same head but for what the calls of a plan change, and for the count
 abbrev pub planned : Head → ℕ → ℕ → ℕ → List ℕ → List ℕ → List ℕ → Head
 planned h a n c cap senders receivers =
-    head_of
-    (record { deliveries = h.deliveries; started = a; nodes = n; channels = c; spare = h.spare })
-    (record { capacity = cap; used = h.used; waiting = h.waiting; marks = h.marks })
-    (record { senders = senders; receivers = receivers; phases = h.phases; offered = h.offered })
+    head_of h.deliveries a n c h.spare cap h.used h.waiting h.marks senders receivers h.phases h.offered
 
 abbrev pub with_head : Ring → Head → Ring
 with_head ring h = ring_in h ring.slots ring.lines ring.offers ring.carried
@@ -191,14 +177,12 @@ module _ (σ : Network) where
       let ns = σ.nodes in
       λ i.
       ring_in
-      (head_of (counts σ (length-append ns (s ∷ []) i) (count_of_channels σ))
-      (record {
-        capacity = numbers-snoc no_node node_room ns s (λ t. t.slots) l i;
-        used = numbers-snoc-left no_node node_room ns s (λ t. length t.buffer) refl i;
-        waiting = numbers-snoc-left no_node node_room ns s (λ t. length t.line) refl i;
-        marks = numbers-snoc-left no_node node_room ns s (λ t. one t.mark) refl i;
-      })
-      (channels_in (hold σ).head))
+      (head_of σ.deliveries (one σ.started) (length-append ns (s ∷ []) i) (count_of_channels σ) 0
+      (numbers-snoc no_node node_room ns s (λ t. t.slots) l i)
+      (numbers-snoc-left no_node node_room ns s (λ t. length t.buffer) refl i)
+      (numbers-snoc-left no_node node_room ns s (λ t. length t.line) refl i)
+      (numbers-snoc-left no_node node_room ns s (λ t. one t.mark) refl i)
+      (hold σ).head.senders (hold σ).head.receivers (hold σ).head.phases (hold σ).head.offered)
       (cells-snoc-left no_node node_room ns s row_length (λ t. cells_of t.buffer) refl i)
       (cells-snoc-left no_node node_room ns s row_length (λ t. cells_of t.line) refl i)
       (hold σ).offers (hold σ).carried
@@ -215,14 +199,12 @@ module _ (σ : Network) where
       let cs = σ.channels in
       λ i.
       ring_in
-      (head_of (counts σ (count_of_nodes σ) (length-append cs (s ∷ []) i))
-      (nodes_in (hold σ).head)
-      (record {
-        senders = numbers-snoc no_channel channel_room cs s (λ t. t.sender.0) l i;
-        receivers = numbers-snoc no_channel channel_room cs s (λ t. t.receiver.0) l i;
-        phases = numbers-snoc-left no_channel channel_room cs s (λ t. phase_code t.phase) refl i;
-        offered = numbers-snoc-left no_channel channel_room cs s (λ t. offered_flag t.offer) refl i;
-      }))
+      (head_of σ.deliveries (one σ.started) (count_of_nodes σ) (length-append cs (s ∷ []) i) 0
+      (hold σ).head.capacity (hold σ).head.used (hold σ).head.waiting (hold σ).head.marks
+      (numbers-snoc no_channel channel_room cs s (λ t. t.sender.0) l i)
+      (numbers-snoc no_channel channel_room cs s (λ t. t.receiver.0) l i)
+      (numbers-snoc-left no_channel channel_room cs s (λ t. phase_code t.phase) refl i)
+      (numbers-snoc-left no_channel channel_room cs s (λ t. offered_flag t.offer) refl i))
       (hold σ).slots (hold σ).lines
       (cells-snoc-left no_channel channel_room cs s record_length (λ t. offer_bytes t.offer) refl i)
       (cells-snoc-left no_channel channel_room cs s record_length (λ t. carried_bytes t.phase) refl i)

@@ -207,10 +207,8 @@ same-head-is a b e =
     both_so all λ all marks. both_so all λ all waiting. both_so all λ all used. both_so all λ all capacity.
     both_so all λ all spare. both_so all λ all channels. both_so all λ all nodes. both_so all λ deliveries started.
     λ i.
-    head_of
-    (record { deliveries = deliveries i; started = started i; nodes = nodes i; channels = channels i; spare = spare i })
-    (record { capacity = capacity i; used = used i; waiting = waiting i; marks = marks i })
-    (record { senders = senders i; receivers = receivers i; phases = phases i; offered = offered i })
+    head_of (deliveries i) (started i) (nodes i) (channels i) (spare i) (capacity i) (used i) (waiting i) (marks i)
+    (senders i) (receivers i) (phases i) (offered i)
 
 same-head-self : (a : Head) → same_head a a ≡ true
 unfolding same_head

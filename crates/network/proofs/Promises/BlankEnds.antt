@@ -15,8 +15,7 @@ use Rattle.network.specs.Network.{Network, Phase, answering, fresh, count_of_cha
 use Rattle.network.specs.Sound.{is_ready, absent, sound}
 use Rattle.network.specs.Calls.{Outcome, refused, accepted}
 use Rattle.network.specs.Calls
-use Rattle.network.specs.Runs.{Call, itself, add_node, add_channel, start, receive, send, enter, move, withdraw, hops_left, waiting_set, sent_on, call, after, run, offered_by, offered_on, delivered_on}
-use Rattle.network.specs.Dispatch.{spelled_out}
+use Rattle.network.specs.Runs.{Call, add_node, add_channel, start, receive, send, enter, move, withdraw, hops_left, waiting_set, sent_on, call, after, run, offered_by, offered_on, delivered_on}
 use Rattle.network.specs.Layout.{ring_limits, view, hold, fresh_ring, sound_ring, call_ring}
 use Rattle.network.specs.Answers.{answers}
 use Rattle.network.specs.Worked.BlankEnds.{old_offer, old_carried, whole_way, way_back, SendRow, sends, answered, RingBlanks, HoldsAsWell, StillSound, StillServed, NoneDelivered}
@@ -29,14 +28,14 @@ use Rattle.network.proofs.Lists.Tables.{net_of, state_of, turned}
 use Rattle.network.proofs.Lists.Clauses.{Within, Started, sound-started, started-sound}
 use Rattle.network.proofs.Lists.Outcomes.{After, not-done, was-done, if-met, if-good}
 use Rattle.network.proofs.Memory.Held.{sound-view, sound-ring, sound-hold}
-use Rattle.network.proofs.Promises.Demand.{ring-demand3, ring-safe, ring-answers, ring-offers}
-use Rattle.network.proofs.Promises.Acts.{on-channel}
+use Rattle.network.proofs.Promises.Machine.{offered-seen}
+use Rattle.network.proofs.Promises.Demand.{ring-machine, ring-demand3, ring-safe}
 use Rattle.network.proofs.Promises.Edges.{number-after}
 
 -- a sound ring, laid out, answers as it does apart from its layout
 pub held-answers : (σ : Network) (calls : List Call) → sound ring_limits σ ≡ true → answers call_ring calls (hold σ) ≡ answers (call ring_limits) calls σ
 held-answers σ calls ok =
-    ring-answers calls (hold σ) (sound-hold σ ok)
+    (ring-demand3.each (hold σ) calls (sound-hold σ ok)).same-answers
     ∙ ap (answers (call ring_limits) calls) (sound-view σ ok)
 
 pub rows-answer : (rs : List SendRow) →
@@ -148,20 +147,18 @@ module _ (k : ChannelNo) where
   clean-call (hops_left j) σ = clean-none (hops_left j) refl (call ring_limits (hops_left j) σ)
   clean-call (waiting_set p) σ = clean-none (waiting_set p) refl (call ring_limits (waiting_set p) σ)
 
-  clean_run : (calls : List Call) (σ : Network) → every clean (offered_on itself (call ring_limits) k calls σ) ≡ true
+  clean_run : (calls : List Call) (σ : Network) → every clean (offered_on (call ring_limits) k calls σ) ≡ true
   clean_run [] σ = refl
   clean_run (a ∷ calls) σ =
       let next : Network = after σ (call ring_limits a σ) in
-      rw (every_append (offered_by k a (call ring_limits a σ)) (offered_on itself (call ring_limits) k calls next), clean-call a σ) (clean_run calls next)
+      rw (every_append (offered_by k a (call ring_limits a σ)) (offered_on (call ring_limits) k calls next), clean-call a σ) (clean_run calls next)
 
 pub none-delivered : NoneDelivered
-none-delivered k acts =
-    let calls : List Call = spelled_out sound_ring view call_ring acts fresh_ring in
+none-delivered k calls =
     let order = ring-demand3.in_order k calls in
     let delivered : List BatchRecord = delivered_on call_ring k calls fresh_ring in
-    let offered : every clean (offered_on itself call_ring k calls fresh_ring) ≡ true =
-    ap (every clean) (ring-offers calls fresh_ring ring-safe.fresh-sound k)
+    let offered : every clean (offered_on call_ring k calls fresh_ring) ≡ true =
+    ap (every clean) (offered-seen ring_limits fresh_ring sound_ring view call_ring ring-machine k calls fresh_ring ring-safe.fresh-sound)
     ∙ clean_run k calls (view fresh_ring) in
-    ap (every clean) (on-channel sound_ring view call_ring acts fresh_ring k)
-    ∙ and_left (every clean delivered) (every clean order.0)
+    and_left (every clean delivered) (every clean order.0)
     (sym (every_append delivered order.0) ∙ ap (every clean) (sym order.1) ∙ offered)

@@ -15,23 +15,23 @@ use Rattle.network.specs.declared.Reply.{Reply}
 use Rattle.network.specs.Network.{Network, numbers_of, count_of_nodes, node}
 use Rattle.network.specs.Calls.{Outcome, refused, accepted, arrival}
 use Rattle.network.specs.Calls
-use Rattle.network.specs.Runs.{Call, enter, move, itself, call, after, run}
+use Rattle.network.specs.Runs.{Call, enter, move, call, after, run}
 use Rattle.network.specs.Demand.{checked_call}
 use Rattle.network.specs.Layout.{ring_limits, view, hold, fresh_ring, sound_ring, call_ring}
-use Rattle.network.specs.Answers.{call_of, reply_of, delivered_in, CallSaid, answers}
-use Rattle.network.specs.Code.{TypedRing, TypedCommand, Code, MeetsContracts}
+use Rattle.network.specs.Answers.{reply_of, delivered_in, Said, answers}
+use Rattle.network.specs.Promise.{MeetsContracts}
 use Rattle.network.specs.Dispatch.{listed}
 use Rattle.network.specs.Worked.Edges.{n0, n1, n2}
 use Rattle.network.specs.Worked.Withdrawals.{ring_after}
-use Rattle.network.specs.Commute.{Traffic, move_at, as_call, Apart, Commute, RingCommutes, RingLeavesOthers, RefusedThere, CodeCommutes, ContractsCommute}
+use Rattle.network.specs.Commute.{Traffic, move_at, as_call, Apart, Commute, RingCommutes, RefusedThere, CodeCommutes, ContractsCommute}
 use Rattle.network.specs.Worked.Pairs.{turn_case, arriving, meeting, stands_twice, EitherWay, OrderMatters, RingPairs, SoundMatters}
 use Rattle.network.proofs.Worked.AtTwoEnds.{turning, turn-case, moves-apart, worked-pairs, made-by-hand}
 use Rattle.network.proofs.Ground.Splits.{by-test}
 use Rattle.network.proofs.Lists.Clauses.{sound-started}
-use Rattle.network.proofs.Lists.Commute.{not-started, beyond-refused, leaves-node, started-commute}
+use Rattle.network.proofs.Lists.Commute.{not-started, beyond-refused, started-commute}
 use Rattle.network.proofs.Memory.Held.{sound-view, sound-ring, sound-hold}
-use Rattle.network.proofs.Promises.Machine.{seen_by, seen_next, run_sound}
-use Rattle.network.proofs.Promises.Demand.{ring-machine, ring-runs, ring-answers}
+use Rattle.network.proofs.Promises.Machine.{seen_by, seen_next, run_sound, run-seen}
+use Rattle.network.proofs.Promises.Demand.{ring-machine, ring-demand3}
 use Rattle.network.proofs.Promises.Edges.{fresh-run, fresh-sound}
 
 -- two refusals: nothing has changed for the other call
@@ -63,12 +63,12 @@ module _ (ring : Ring) (ok : sound_ring ring ≡ true) where
   later-reply : (a b : Call) → reply_of (call_ring a (after ring (call_ring b ring))) ≡ reply_of (call ring_limits a (after σ (call ring_limits b σ)))
   later-reply a b =
       replies a _ (ring-machine.step-sound b ring ok)
-      ∙ ap (λ τ. reply_of (call ring_limits a τ)) (seen_next ring_limits itself fresh_ring sound_ring view call_ring ring-machine b ring ok)
+      ∙ ap (λ τ. reply_of (call ring_limits a τ)) (seen_next ring_limits fresh_ring sound_ring view call_ring ring-machine b ring ok)
 
   laid-out : (calls : List Call) → run call_ring calls ring ≡ hold (run (call ring_limits) calls σ)
   laid-out calls =
-      sym (sound-ring _ (run_sound ring_limits itself fresh_ring sound_ring view call_ring ring-machine calls ring ok)).laid-out
-      ∙ ap hold (ring-runs calls ring ok)
+      sym (sound-ring _ (run_sound ring_limits fresh_ring sound_ring view call_ring ring-machine calls ring ok)).laid-out
+      ∙ ap hold (run-seen ring_limits fresh_ring sound_ring view call_ring ring-machine calls ring ok)
 
   in_memory : (a b : Call) → Commute (call ring_limits) a b σ → Commute call_ring a b ring
   in_memory a b c =
@@ -90,16 +90,6 @@ ring-commutes ring a b apart =
     both-refused call_ring (as_call a) (as_call b) ring (ring-machine.step-unsound (as_call a) ring broken)
     (ring-machine.step-unsound (as_call b) ring broken))
 
-pub ring-leaves-others : RingLeavesOthers
-ring-leaves-others ring a q apart =
-    by-test (sound_ring ring)
-    (λ ok.
-    ap (λ τ. node τ q) (seen_next ring_limits itself fresh_ring sound_ring view call_ring ring-machine (as_call a) ring ok)
-    ∙ by-test (view ring).started
-    (λ on. leaves-node ring_limits (view ring) (sound-started ring_limits (view ring) (sound-ring ring ok).sound on) a q apart)
-    (λ off. ap (λ o. node (after (view ring) o) q) (not-started ring_limits (view ring) off a)))
-    (λ broken. ap (λ o. node (view (after ring o)) q) (ring-machine.step-unsound (as_call a) ring broken))
-
 pub refused-there : (a : Traffic) (ring : Ring) → RefusedThere a ring
 unfolding call_ring
 refused-there a ring =
@@ -109,53 +99,45 @@ refused-there a ring =
       no-such-node = λ ok on beyond. rw (ok, beyond-refused ring_limits (view ring) on a beyond);
     }
 
--- what code returns is what the contracts say, command after command
-module _ (code : Code) (meets : MeetsContracts code) (ring : TypedRing) where
-  abbrev is : TypedCommand → Call
-  is c = call_of c.value
+-- what code returns is what the contracts say, call after call
+module _ (code : Call → Ring → Step) (meets : MeetsContracts code) (ring : Ring) where
+  left : (a : Call) → (code a ring).ring ≡ after ring (call_ring a ring)
+  left a = ap (λ (s : Step). s.ring) (meets a ring)
 
-  left : (c : TypedCommand) → (code.perform c ring).next.value ≡ after ring.value (call_ring (is c) ring.value)
-  left c = ap (λ (s : Step). s.ring) (meets.perform-meets c ring)
+  replied : (a : Call) → (code a ring).reply ≡ reply_of (call_ring a ring)
+  replied a = ap (λ (s : Step). s.reply) (meets a ring)
 
-  replied : (c : TypedCommand) → (code.perform c ring).answer ≡ reply_of (call_ring (is c) ring.value)
-  replied c = ap (λ (s : Step). s.reply) (meets.perform-meets c ring)
+  then-replied : (a b : Call) → (code a (code b ring).ring).reply ≡ reply_of (call_ring a (after ring (call_ring b ring)))
+  then-replied a b = ap (λ r. (code a r).reply) (left b) ∙ ap (λ (s : Step). s.reply) (meets a _)
 
-  then-replied : (c d : TypedCommand) →
-      (code.perform c (code.perform d ring).next).answer ≡ reply_of (call_ring (is c) (after ring.value (call_ring (is d) ring.value)))
-  then-replied c d =
-      ap (λ (s : Step). s.reply) (meets.perform-meets c (code.perform d ring).next) ∙ ap (λ r. reply_of (call_ring (is c) r)) (left d)
+  then-left : (a b : Call) → (code b (code a ring).ring).ring ≡ run call_ring (a ∷ b ∷ []) ring
+  then-left a b = ap (λ r. (code b r).ring) (left a) ∙ ap (λ (s : Step). s.ring) (meets b _)
 
-  then-left : (c d : TypedCommand) →
-      (code.perform d (code.perform c ring).next).next.value ≡ run call_ring (is c ∷ is d ∷ []) ring.value
-  then-left c d =
-      ap (λ (s : Step). s.ring) (meets.perform-meets d (code.perform c ring).next) ∙ ap (λ r. after r (call_ring (is d) r)) (left c)
-
-  returned-commute : (c d : TypedCommand) → Commute call_ring (is c) (is d) ring.value → CodeCommutes code c d ring
-  returned-commute c d h =
+  returned-commute : (a b : Call) → Commute call_ring a b ring → CodeCommutes code a b ring
+  returned-commute a b c =
       record {
-        first-reply = then-replied c d ∙ h.first-answer ∙ sym (replied c);
-        second-reply = then-replied d c ∙ h.second-answer ∙ sym (replied d);
-        same-ring = then-left c d ∙ h.same-ring ∙ sym (then-left d c);
+        first-reply = then-replied a b ∙ c.first-answer ∙ sym (replied a);
+        second-reply = then-replied b a ∙ c.second-answer ∙ sym (replied b);
+        same-ring = then-left a b ∙ c.same-ring ∙ sym (then-left b a);
       }
 
 pub contracts-commute : ContractsCommute
-contracts-commute code meets ring c d a b is-a is_b apart =
-    returned-commute code meets ring c d (rw (is-a, is_b) (ring-commutes ring.value a b apart))
+contracts-commute code meets ring a b apart = returned-commute code meets ring (as_call a) (as_call b) (ring-commutes ring a b apart)
 
 -- The worked pairs, carried over to a sound ring in memory that holds the ring of the example.
 
 module _ (ring : Ring) (ok : sound_ring ring ≡ true) {τ : Network} (holds : view ring ≡ τ) where
   answered-there : (calls : List Call) → answers call_ring calls ring ≡ answers (call ring_limits) calls τ
-  answered-there calls = ring-answers calls ring ok ∙ ap (answers (call ring_limits) calls) holds
+  answered-there calls = (ring-demand3.each ring calls ok).same-answers ∙ ap (answers (call ring_limits) calls) holds
 
   seen-there : (calls : List Call) → view (run call_ring calls ring) ≡ run (call ring_limits) calls τ
   seen-there calls =
-      ring-runs calls ring ok ∙ ap (run (call ring_limits) calls) holds
+      run-seen ring_limits fresh_ring sound_ring view call_ring ring-machine calls ring ok ∙ ap (run (call ring_limits) calls) holds
 
   left_there : (calls : List Call) → run call_ring calls ring ≡ hold (run (call ring_limits) calls τ)
   left_there calls = laid-out ring ok calls ∙ ap (λ υ. hold (run (call ring_limits) calls υ)) holds
 
-  either_way : {a b : Traffic} {x y : CallSaid} → EitherWay (λ υ. υ) (call ring_limits) τ a b x y → EitherWay view call_ring ring a b x y
+  either_way : {a b : Traffic} {x y : Said} → EitherWay (λ υ. υ) (call ring_limits) τ a b x y → EitherWay view call_ring ring a b x y
   either_way {a} {b} w =
       let one = as_call a ∷ as_call b ∷ [] in
       let other = as_call b ∷ as_call a ∷ [] in

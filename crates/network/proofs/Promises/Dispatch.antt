@@ -10,29 +10,45 @@ use native.Mathlib.Nat.{not-suc-le-zero}
 use native.Mathlib.Omega.{arith}
 use lib.ListN.{length, length-append}
 use borrow.Author.Tests.{eqb-false}
-use Rattle.refusal.specs.declared.Refusal.{Refusal}
-use Rattle.refusal.specs.declared.Refusal.TheVariants.{UnsoundRing, NotStarted}
 use Rattle.numbers.specs.declared.ChannelNo.{ChannelNo}
 use Rattle.network.specs.Counting.{one, times}
-use Rattle.network.specs.Network.{Network, node_no, channel_no, count_of_nodes, count_of_channels, channel, moving, still, on_ring}
+use Rattle.network.specs.Network.{Network, node_no, channel_no, count_of_nodes, count_of_channels, channel, moving}
 use Rattle.network.specs.Sound.{Limits, sound}
-use Rattle.network.specs.Calls.{Delivery, Outcome, refused, accepted, unless}
-use Rattle.network.specs.Runs.{Call, itself, enter, move, call, after, is_accepted, delivered_by, run, delivered_on}
+use Rattle.network.specs.Calls.{Outcome, refused, accepted}
+use Rattle.network.specs.Runs.{Call, enter, move, call, after, is_accepted, delivered_by, run, delivered_on}
 use Rattle.network.specs.Layout.{ring_limits, view, fresh_ring, sound_ring, call_ring}
 use Rattle.network.specs.Demand.{checked_call}
-use Rattle.network.specs.Dispatch.{round, handed_by, deliveries, Dispatch, not_run, ran, after_dispatch, rounds_made, spelled, dispatched, dispatched_by, Dispatches, DispatcherKeeps}
+use Rattle.network.specs.Dispatch.{round, on_ring, still, handed_by, deliveries, rounds_made, spelled, Dispatches, DispatcherKeeps}
 use Rattle.network.specs.Worked.Rounds.{NoneTooMany}
 use Rattle.network.proofs.Ground.Splits.{by-test, by-same}
 use Rattle.network.proofs.Ground.Counting.{sum-some, one-most}
 use Rattle.network.proofs.Theory.Stall.{no-stall}
-use Rattle.network.proofs.Theory.Todo.{todo-most}
+use Rattle.network.proofs.Theory.Todo.{goes, todo-most}
 use Rattle.network.proofs.Lists.Tables.{net_of, state_of}
 use Rattle.network.proofs.Lists.Clauses.{Started, sound-started}
 use Rattle.network.proofs.Lists.Bridge.{enter-accepted, move-accepted}
 use Rattle.network.proofs.Lists.Tries.{left, on-ring-few, went}
-use Rattle.network.proofs.Promises.Machine.{Machine, run_sound, calls-run, calls-deliver}
+use Rattle.network.proofs.Promises.Machine.{Machine, run_sound, run-seen, deliveries-seen}
 use Rattle.network.proofs.Promises.Demand.{machine, ring-machine}
-use Rattle.network.proofs.Promises.Acts.{Going, none-go, go, going-append, going-round, going-times, run-append, records-delivered}
+use Rattle.network.proofs.Promises.Acts.{run-append, records-delivered}
+
+-- lists of entries and moves
+
+pub data Going : List Call → Type 0 where
+  none-go : Going []
+  go : {a : Call} {calls : List Call} → goes a ≡ true → Going calls → Going (a ∷ calls)
+
+pub going-append : {xs ys : List Call} → Going xs → Going ys → Going (xs ++ ys)
+going-append none-go b = b
+going-append (go g a) b = go g (going-append a b)
+
+pub going-round : (n : ℕ) → Going (round n)
+going-round zero = none-go
+going-round (suc n) = going-append (going-round n) (go refl (go refl none-go))
+
+pub going-times : (m : ℕ) {calls : List Call} → Going calls → Going (times m calls)
+going-times zero g = none-go
+going-times (suc m) g = going-append g (going-times m g)
 
 -- a call among others
 data Among (a : Call) : List Call → Type 0 where
@@ -193,17 +209,11 @@ module _ (L : Limits) where
       let then = none-too-many given fewer (next σ) (round-gone σ s).started (omega (arith, made_more given σ s busy)) in
       (made_more fewer σ s busy ∙ ap suc then.0, rw (end_more fewer σ s busy) then.1)
 
-  dispatches : (given : ℕ) (σ : Network) → sound L σ ≡ true → σ.started ≡ true →
-      Dispatches (λ g. g) (sound L) (λ τ. τ) (dispatched_by L) given σ
-  dispatches given σ ok on =
-      let s = sound-started L σ ok on in
+  dispatches : (given : ℕ) (σ : Network) → Started L σ → Dispatches (sound L) (λ τ. τ) (call L) given σ
+  dispatches given σ s =
       let calls : List Call = in_full given σ in
       let gone = all-gone σ s (going-times (made given σ) (going-round (count_of_nodes σ))) in
       record {
-        rounds = made given σ;
-        handed = deliveries (call L) calls σ;
-        next = end given σ;
-        runs = rw (ok, on);
         empties = λ enough. drained given σ s (omega (arith, todo-most (net_of σ) s.tables));
         ends-early = ends-early given σ s;
         made-most = made-most given σ;
@@ -212,120 +222,17 @@ module _ (L : Limits) where
         few = omega (arith, gone.fewer, on-ring-few σ);
       }
 
-  pub keeps-defined : DispatcherKeeps (λ g. g) (sound L) (λ τ. τ) (dispatched_by L)
-  keeps-defined =
-      record {
-        refused-25 = λ g σ broken. rw broken;
-        refused-8 = λ g σ ok off. rw (ok, off);
-        dispatches = dispatches;
-      }
-
--- a dispatcher call seen as one on the ring that is held
-abbrev pub ran_seen : {S T : Type 0} → (S → T) → Dispatch S → Dispatch T
-ran_seen f (not_run r) = not_run r
-ran_seen f (ran rounds ds s) = ran rounds ds (f s)
-
--- a dispatcher whose answers are those of the definitions, on the ring that is held
-pub record Dispatcher (L : Limits) {G S : Type 0} (given : G → ℕ) (sound' : S → Bool) (seen : S → Network) (dispatcher : G → S → Dispatch S) :
-    Type 0 where
-  pub ran-seen : (g : G) (s : S) → sound' s ≡ true → ran_seen seen (dispatcher g s) ≡ dispatched_by L (given g) (seen s)
-  pub ran-sound : (g : G) (s : S) → sound' s ≡ true → sound' (after_dispatch s (dispatcher g s)) ≡ true
-  pub ran-unsound : (g : G) (s : S) → sound' s ≡ false → dispatcher g s ≡ not_run UnsoundRing
-
--- what an answer seen so says of the answer
-has-run : {S : Type 0} (T : Type 0) (f : S → T) (d : Dispatch S) (rounds : ℕ) (ds : List Delivery) (t : T) → ran_seen f d ≡ ran rounds ds t →
-    (s : S) × ((d ≡ ran rounds ds s) × (f s ≡ t))
-has-run T f (not_run r) rounds ds t e = absurd (false≢true (ap has-made e))
-  where
-    has-made : Dispatch T → Bool
-    has-made (not_run q) = false
-    has-made (ran m hs u) = true
-has-run {S} T f (ran m hs u) rounds ds t e = (u, ((λ i. ran (ap made_in e i) (ap handed-in e i) u), ap ring_in e))
-  where
-    made_in : Dispatch T → ℕ
-    made_in (not_run q) = 0
-    made_in (ran m hs u) = m
-
-    handed-in : Dispatch T → List Delivery
-    handed-in (not_run q) = []
-    handed-in (ran m hs u) = hs
-
-    ring_in : Dispatch T → T
-    ring_in (not_run q) = t
-    ring_in (ran m hs u) = u
-
-pub not-run : {S : Type 0} (T : Type 0) (f : S → T) (d : Dispatch S) (r : Refusal) → ran_seen f d ≡ not_run r → d ≡ not_run r
-not-run T f (not_run q) r e = ap (λ p. not_run p) (ap why e)
-  where
-    why : Dispatch T → Refusal
-    why (not_run p) = p
-    why (ran m hs u) = q
-not-run T f (ran m hs u) r e = absurd (false≢true (sym (ap has-made e)))
-  where
-    has-made : Dispatch T → Bool
-    has-made (not_run q) = false
-    has-made (ran k gs v) = true
-
-module _ (L : Limits) {G S : Type 0} (given : G → ℕ) (sound' : S → Bool) (seen : S → Network) (dispatcher : G → S → Dispatch S)
-    (D : Dispatcher L given sound' seen dispatcher) (seen-sound : (s : S) → sound' s ≡ true → sound L (seen s) ≡ true) where
-  open D use {ran-seen, ran-unsound}
-
-  keeps-there : (g : G) (s : S) → sound' s ≡ true → (seen s).started ≡ true → Dispatches given sound' seen dispatcher g s
-  keeps-there g s ok on =
-      let d = (keeps-defined L).dispatches (given g) (seen s) (seen-sound s ok) on in
-      let r = has-run Network seen (dispatcher g s) d.rounds d.handed d.next (ran-seen g s ok ∙ d.runs) in
-      record {
-        rounds = d.rounds;
-        handed = d.handed;
-        next = r.0;
-        runs = r.1.0;
-        empties = λ enough. ap still r.1.1 ∙ d.empties enough;
-        ends-early = λ l. ap still r.1.1 ∙ d.ends-early l;
-        made-most = d.made-most;
-        once-each = d.once-each;
-        few = d.few;
-      }
-
-  pub dispatcher-keeps : DispatcherKeeps given sound' seen dispatcher
-  dispatcher-keeps =
-      record {
-        refused-25 = ran-unsound;
-        refused-8 = λ g s ok off.
-            not-run Network seen (dispatcher g s) NotStarted
-            (ran-seen g s ok ∙ (keeps-defined L).refused-8 (given g) (seen s) (seen-sound s ok) off);
-        dispatches = keeps-there;
-      }
-
--- the tests of a dispatcher call on a sound ring: it has started, or it has not
-passed : {A : Type 0} (b c : Bool) (x y z : A) → b ≡ true → c ≡ true → unless b x (unless c y z) ≡ z
-passed b c x y z p q = rw (p, q)
-
-stopped : {A : Type 0} (b c : Bool) (x y z : A) → b ≡ true → c ≡ false → unless b x (unless c y z) ≡ y
-stopped b c x y z p q = rw (p, q)
-
-module _ {S : Type 0} (sound : S → Bool) (seen : S → Network) (step : Call → S → Outcome S) (given : ℕ) (s : S) (ok : sound s ≡ true) where
-  runs : (seen s).started ≡ true →
-      dispatched sound seen step given s
-      ≡ ran (rounds_made sound seen step given s) (deliveries step (spelled sound seen step given s) s) (run step (spelled sound seen step given s) s)
-  runs on = passed (sound s) (seen s).started (not_run UnsoundRing) (not_run NotStarted) _ ok on
-
-  waits : (seen s).started ≡ false → dispatched sound seen step given s ≡ not_run NotStarted
-  waits off =
-      stopped (sound s) (seen s).started (not_run UnsoundRing) (not_run NotStarted)
-      (ran (rounds_made sound seen step given s) (deliveries step (spelled sound seen step given s) s) (run step (spelled sound seen step given s) s))
-      ok off
-
 -- whatever answers as the ring that it holds makes the same rounds, with the same calls and deliveries
 module _ (L : Limits) {S : Type 0} (fresh : S) (sound' : S → Bool) (seen : S → Network) (step : Call → S → Outcome S)
-    (M : Machine L itself fresh sound' seen step) where
+    (M : Machine L fresh sound' seen step) where
   pub rounds-seen : (given : ℕ) (s : S) → sound' s ≡ true →
       rounds_made sound' seen step given s ≡ rounds_made (sound L) (λ τ. τ) (call L) given (seen s)
   rounds-seen zero s ok = refl
   rounds-seen (suc given) s ok =
       let calls : List Call = round (count_of_nodes (seen s)) in
       ap (λ m. cond (still (seen s)) 0 (suc m))
-      (rounds-seen given (run step calls s) (run_sound L itself fresh sound' seen step M calls s ok)
-      ∙ ap (rounds_made (sound L) (λ τ. τ) (call L) given) (calls-run L fresh sound' seen step M calls s ok))
+      (rounds-seen given (run step calls s) (run_sound L fresh sound' seen step M calls s ok)
+      ∙ ap (rounds_made (sound L) (λ τ. τ) (call L) given) (run-seen L fresh sound' seen step M calls s ok))
 
   pub spelled-seen : (given : ℕ) (s : S) → sound' s ≡ true →
       spelled sound' seen step given s ≡ spelled (sound L) (λ τ. τ) (call L) given (seen s)
@@ -336,49 +243,40 @@ module _ (L : Limits) {S : Type 0} (fresh : S) (sound' : S → Bool) (seen : S �
       seen (run step (spelled sound' seen step given s) s)
       ≡ run (call L) (spelled (sound L) (λ τ. τ) (call L) given (seen s)) (seen s)
   end_seen given s ok =
-      calls-run L fresh sound' seen step M (spelled sound' seen step given s) s ok
+      run-seen L fresh sound' seen step M (spelled sound' seen step given s) s ok
       ∙ ap (λ calls. run (call L) calls (seen s)) (spelled-seen given s ok)
 
   pub handed-out-seen : (given : ℕ) (s : S) → sound' s ≡ true →
       deliveries step (spelled sound' seen step given s) s
       ≡ deliveries (call L) (spelled (sound L) (λ τ. τ) (call L) given (seen s)) (seen s)
   handed-out-seen given s ok =
-      calls-deliver L fresh sound' seen step M (spelled sound' seen step given s) s ok
+      deliveries-seen L fresh sound' seen step M (spelled sound' seen step given s) s ok
       ∙ ap (λ calls. deliveries (call L) calls (seen s)) (spelled-seen given s ok)
 
-  -- so its dispatcher answers as that of the definitions
-  pub machine-dispatcher : Dispatcher L (λ given. given) sound' seen (dispatched sound' seen step)
-  machine-dispatcher =
+  started-there : (s : S) → sound' s ≡ true → (seen s).started ≡ true → Started L (seen s)
+  started-there s ok on = sound-started L (seen s) (M.seen-sound s ok) on
+
+  pub machine-keeps : DispatcherKeeps sound' seen step
+  machine-keeps given s ok on =
+      let d = dispatches L given (seen s) (started-there s ok on) in
+      let rounds = rounds-seen given s ok in
       record {
-        ran-seen = λ given s ok.
-            by-test (seen s).started
-            (λ on.
-            ap (ran_seen seen) (runs sound' seen step given s ok on)
-            ∙ (λ i. ran (rounds-seen given s ok i) (handed-out-seen given s ok i) (end_seen given s ok i))
-            ∙ sym (runs (sound L) (λ τ. τ) (call L) given (seen s) (M.seen-sound s ok) on))
-            (λ off.
-            ap (ran_seen seen) (waits sound' seen step given s ok off)
-            ∙ sym (waits (sound L) (λ τ. τ) (call L) given (seen s) (M.seen-sound s ok) off));
-        ran-sound = λ given s ok.
-            by-test (seen s).started
-            (λ on. rw (ok, on) (run_sound L itself fresh sound' seen step M (spelled sound' seen step given s) s ok))
-            (λ off. rw (ok, off) ok);
-        ran-unsound = λ given s broken. rw broken;
+        empties = λ enough. ap still (end_seen given s ok) ∙ d.empties enough;
+        ends-early = λ l. ap still (end_seen given s ok) ∙ d.ends-early (rw rounds at l);
+        made-most = rw rounds d.made-most;
+        once-each = λ k. rw (handed-out-seen given s ok) (d.once-each k);
+        few = rw (handed-out-seen given s ok) d.few;
       }
 
   pub machine-none-too-many : NoneTooMany fresh sound' seen step
   machine-none-too-many given fewer s ok on l =
-      let r = none-too-many L given fewer (seen s) (sound-started L (seen s) (M.seen-sound s ok) on) (rw (rounds-seen given s ok) at l) in
+      let r = none-too-many L given fewer (seen s) (started-there s ok on) (rw (rounds-seen given s ok) at l) in
       (rounds-seen fewer s ok ∙ r.0, ap still (end_seen fewer s ok) ∙ r.1)
 
 -- for every size of ring, and for the ring in memory
 
-pub dispatcher-checked : (L : Limits) → Dispatcher L (λ given. given) (sound L) (λ σ. σ) (dispatched (sound L) (λ σ. σ) (checked_call L))
-dispatcher-checked L = machine-dispatcher L _ (sound L) (λ σ. σ) (checked_call L) (machine L)
+pub dispatcher-keeps : (L : Limits) → DispatcherKeeps (sound L) (λ σ. σ) (checked_call L)
+dispatcher-keeps L = machine-keeps L _ (sound L) (λ σ. σ) (checked_call L) (machine L)
 
-pub ring-dispatcher : Dispatcher ring_limits (λ given. given) sound_ring view (dispatched sound_ring view call_ring)
-ring-dispatcher = machine-dispatcher ring_limits fresh_ring sound_ring view call_ring ring-machine
-
-pub ring-dispatcher-keeps : DispatcherKeeps (λ given. given) sound_ring view (dispatched sound_ring view call_ring)
-ring-dispatcher-keeps =
-    dispatcher-keeps ring_limits (λ given. given) sound_ring view (dispatched sound_ring view call_ring) ring-dispatcher ring-machine.seen-sound
+pub ring-dispatcher-keeps : DispatcherKeeps sound_ring view call_ring
+ring-dispatcher-keeps = machine-keeps ring_limits fresh_ring sound_ring view call_ring ring-machine

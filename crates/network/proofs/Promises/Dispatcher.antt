@@ -1,28 +1,32 @@
--- The answer of the dispatcher in code tells every delivery, so nothing is lost in it (specs/Dispatcher): at most one is made on each channel,
--- and there is a place for each.
+-- The answer of the dispatcher in code tells every delivery, and code that meets the contracts, that of the dispatcher too, keeps what is
+-- promised (specs/Dispatcher): what it returns is what the definitions say of the same entries and moves called singly.
 use Prim.Native.Nat.{ℕ, ◌≤◌, ◌<◌}
-use mathlib.Core.Path.{◌≡◌, refl, sym, ap, ◌∙◌}
+use mathlib.Core.Path.{◌≡◌, refl, sym, ap, subst, ◌∙◌}
 use mathlib.Core.Logic.{◌≢◌}
-use mathlib.Core.Bool.{true, false}
 use mathlib.Core.List.{List, []}
 use native.Mathlib.Omega.{arith}
 use lib.ListN.{length, get_or, get_or-map}
 use Rattle.refusal.specs.declared.Refusal.{Refusal}
 use Rattle.refusal.specs.declared.Refusal.TheVariants.{UnsoundRing, NotStarted}
+use Rattle.refusal.proofs.Number.{in-range}
 use Rattle.batch.specs.Blank.{no_record}
 use Rattle.network.specs.declared.Ring.{Ring}
+use Rattle.network.specs.declared.Step.{Step}
 use Rattle.network.specs.declared.Answer.TheVariants.{Done}
+use Rattle.network.specs.declared.DispatchStep.{DispatchStep}
 use Rattle.network.specs.Network.{channel_no}
 use Rattle.network.specs.Calls.{Delivery}
 use Rattle.network.specs.Runs.{Call, run}
-use Rattle.network.specs.Layout.{channel_room, view, sound_ring, call_ring}
+use Rattle.network.specs.Layout.{ring_limits, channel_room, view, fresh_ring, sound_ring, call_ring}
 use Rattle.network.specs.Answers.{number_in}
-use Rattle.network.specs.Dispatch.{Dispatch, not_run, ran, handed_out, deliveries, rounds_made, spelled}
-use Rattle.network.specs.Dispatcher.{dispatch_ring, filled, channels_of, records_of, answered, answer_of, dispatch_step_of, dispatch_step, deliveries_in, TellsAll, ran_in, DispatchKeeps}
+use Rattle.network.specs.Dispatch.{Dispatch, not_run, ran, deliveries, rounds_made, spelled, DispatcherKeeps, ActsDemand3}
+use Rattle.network.specs.Promise.{MeetsContracts, returned}
+use Rattle.network.specs.Dispatcher.{dispatch_ring, filled, channels_of, records_of, answered, answer_of, dispatch_step_of, deliveries_in, TellsAll, MeetsDispatch, AsSingly, TurnsAway, DispatchPromised, DispatchSuffices}
 use Rattle.network.proofs.Ground.Splits.{by-test}
 use Rattle.network.proofs.Memory.Rows.{get_d_tabulate, tabulate-is}
 use Rattle.network.proofs.Memory.Held.{sound-ring}
-use Rattle.network.proofs.Promises.Answers.{not-zero}
+use Rattle.network.proofs.Promises.Promise.{returned-is}
+use Rattle.network.proofs.Promises.DemandActs.{ring-acts-demand3}
 use Rattle.network.proofs.Promises.Dispatch.{ring-dispatcher-keeps}
 
 blank : Delivery
@@ -42,60 +46,80 @@ tells_all a rounds ds few =
     ∙ get_or-map (λ (d : Delivery). d.«record») ds i blank in
     λ j. record { channel = channel_no (channel j); «record» = told j })
 
--- The dispatcher on the ring in memory: it has run on a sound started ring, or it was refused.
+-- The dispatcher on the ring in memory, by its answer: it has run on a sound started ring, or it was refused.
+
+record HasRun (given : ℕ) (ring : Ring) : Type 0 where
+  rounds-made : (answer_of (dispatch_ring given ring)).rounds ≡ rounds_made sound_ring view call_ring given ring
+  same-ring : (dispatch_step_of ring (dispatch_ring given ring)).ring ≡ run call_ring (spelled sound_ring view call_ring given ring) ring
+  same-deliveries : deliveries_in (answer_of (dispatch_ring given ring)) ≡ deliveries call_ring (spelled sound_ring view call_ring given ring) ring
+
 module _ (given : ℕ) (ring : Ring) where
-  pub has-run : sound_ring ring ≡ true → (view ring).started ≡ true →
-      dispatch_ring given ring
-      ≡ ran (rounds_made sound_ring view call_ring given ring) (deliveries call_ring (spelled sound_ring view call_ring given ring) ring)
-      (run call_ring (spelled sound_ring view call_ring given ring) ring)
+  -- no refusal has the number 0
+  not-refused : {X : Type 0} (r : Refusal) → dispatch_ring given ring ≡ not_run r →
+      number_in (answer_of (dispatch_ring given ring)).answer ≡ 0 → X
+  not-refused r e zero-there = absurd (omega (arith, (in-range r).0, sym (ap (λ d. number_in (answer_of d).answer) e) ∙ zero-there))
+
+  has-run : number_in (answer_of (dispatch_ring given ring)).answer ≡ 0 → HasRun given ring
   unfolding dispatch_ring
-  has-run ok on = rw (ok, on)
-
-  told-few : sound_ring ring ≡ true → (view ring).started ≡ true →
-      length (deliveries call_ring (spelled sound_ring view call_ring given ring) ring) ≤ channel_room
-  unfolding dispatch_ring
-  told-few ok on =
-      let d = ring-dispatcher-keeps.dispatches given ring ok on in
-      let same : d.handed ≡ deliveries call_ring (spelled sound_ring view call_ring given ring) ring =
-      sym (ap handed_out d.runs) ∙ ap handed_out (has-run ok on) in
-      omega (arith, ap length same, d.few, (sound-ring ring ok).fits.channels-fit)
-
-  not-started : sound_ring ring ≡ true → (view ring).started ≡ false → dispatch_ring given ring ≡ not_run NotStarted
-  unfolding dispatch_ring
-  not-started ok off = rw (ok, off)
-
-  unsound : sound_ring ring ≡ false → dispatch_ring given ring ≡ not_run UnsoundRing
-  unfolding dispatch_ring
-  unsound broken = rw broken
-
-  pub all_told : sound_ring ring ≡ true → (view ring).started ≡ true →
-      deliveries_in (dispatch_step given ring).dispatched ≡ deliveries call_ring (spelled sound_ring view call_ring given ring) ring
-  all_told ok on =
-      ap (λ d. deliveries_in (answer_of d)) (has-run ok on)
-      ∙ tells_all Done (rounds_made sound_ring view call_ring given ring) _ (told-few ok on)
-
-refusal-told : (ring : Ring) (r : Refusal) → ran_in (dispatch_step_of ring (not_run r)).dispatched ring ≡ not_run r
-refusal-told ring r = rw (not-zero r)
-
-pub dispatch-keeps : DispatchKeeps
-dispatch-keeps given ring =
-    by-test (sound_ring ring)
-    (λ ok.
-    by-test (view ring).started
-    (λ on.
-    let calls : List Call = spelled sound_ring view call_ring given ring in
-    kept (has-run given ring ok on)
-    (ap (λ ds. ran (rounds_made sound_ring view call_ring given ring) ds (run call_ring calls ring))
-    (tells_all Done (rounds_made sound_ring view call_ring given ring) (deliveries call_ring calls ring) (told-few given ring ok on))))
-    (λ off. kept (not-started given ring ok off) (refusal-told ring NotStarted)))
-    (λ broken. kept (unsound given ring broken) (refusal-told ring UnsoundRing))
-  where
-    kept : {d : Dispatch Ring} → dispatch_ring given ring ≡ d → ran_in (dispatch_step_of ring d).dispatched (dispatch_step_of ring d).ring ≡ d →
-        ran_in (dispatch_step given ring).dispatched (dispatch_step given ring).ring ≡ dispatch_ring given ring
-    kept is h = ap (λ e. ran_in (dispatch_step_of ring e).dispatched (dispatch_step_of ring e).ring) is ∙ h ∙ sym is
+  has-run done =
+      by-test (sound_ring ring)
+      (λ ok.
+      by-test (view ring).started
+      (λ on.
+      let calls : List Call = spelled sound_ring view call_ring given ring in
+      let few : length (deliveries call_ring calls ring) ≤ channel_room =
+      omega (arith, (ring-dispatcher-keeps given ring ok on).few, (sound-ring ring ok).fits.channels-fit) in
+      record {
+        rounds-made = rw (ok, on);
+        same-ring = rw (ok, on);
+        same-deliveries = rw (ok, on) (tells_all Done (rounds_made sound_ring view call_ring given ring) _ few);
+      })
+      (λ off. not-refused NotStarted (rw (ok, off)) done))
+      (λ broken. not-refused UnsoundRing (rw broken) done)
 
 -- an answer that has a number is a refusal
-pub answer-leaves : (ring : Ring) (d : Dispatch Ring) → number_in (answer_of d).answer ≢ 0 →
+turned-away : (ring : Ring) (d : Dispatch Ring) → number_in (answer_of d).answer ≢ 0 →
     ((dispatch_step_of ring d).ring ≡ ring) × (answer_of d ≡ answered (answer_of d).answer 0 [])
-answer-leaves ring (not_run r) numbered = (refl, refl)
-answer-leaves ring (ran rounds ds t) numbered = absurd (numbered refl)
+turned-away ring (not_run r) numbered = (refl, refl)
+turned-away ring (ran rounds ds t) numbered = absurd (numbered refl)
+
+module _ (code : Call → Ring → Step) (dispatcher : ℕ → Ring → DispatchStep) (meets : MeetsContracts code)
+    (dispatches : MeetsDispatch code dispatcher) where
+  same_step : call_ring ≡ returned code
+  same_step = sym (returned-is code meets)
+
+  as-singly : (given : ℕ) (ring : Ring) → number_in (dispatcher given ring).dispatched.answer ≡ 0 → AsSingly code dispatcher given ring
+  as-singly given ring done =
+      let is = dispatches given ring in
+      let has = has-run given ring (subst (λ s. number_in s.dispatched.answer ≡ 0) is done) in
+      record {
+        rounds-made =
+            ap (λ s. s.dispatched.rounds) is ∙ has.rounds-made ∙ ap (λ step. rounds_made sound_ring view step given ring) same_step;
+        same-ring =
+            ap (λ s. s.ring) is ∙ has.same-ring ∙ ap (λ step. run step (spelled sound_ring view step given ring) ring) same_step;
+        same-deliveries =
+            ap (λ s. deliveries_in s.dispatched) is ∙ has.same-deliveries
+            ∙ ap (λ step. deliveries step (spelled sound_ring view step given ring) ring) same_step;
+      }
+
+  turns-away : (given : ℕ) (ring : Ring) → number_in (dispatcher given ring).dispatched.answer ≢ 0 → TurnsAway code dispatcher given ring
+  turns-away given ring numbered =
+      let is = dispatches given ring in
+      let away = turned-away ring (dispatch_ring given ring) (subst (λ s. number_in s.dispatched.answer ≢ 0) is numbered) in
+      record {
+        ring-as-before = ap (λ s. s.ring) is ∙ away.0;
+        nothing-told =
+            subst (λ s. s.dispatched ≡ answered s.dispatched.answer 0 []) (sym is) away.1;
+      }
+
+  promised : DispatchPromised code dispatcher
+  promised =
+      record {
+        as-singly = as-singly;
+        turns-away = turns-away;
+        keeps = subst (DispatcherKeeps sound_ring view) same_step ring-dispatcher-keeps;
+        demand3 = subst (λ step. ActsDemand3 fresh_ring sound_ring view step ring_limits) same_step ring-acts-demand3;
+      }
+
+pub dispatch-suffices : DispatchSuffices
+dispatch-suffices = promised

@@ -14,13 +14,15 @@ use Rattle.network.specs.Counting.{sum}
 use Rattle.network.specs.Network.{fresh}
 use Rattle.network.specs.Calls.{arrival}
 use Rattle.network.specs.Calls
-use Rattle.network.specs.Runs.{Call, itself, add_node, start, call, run, counted, bound}
+use Rattle.network.specs.Runs.{Call, add_node, start, call, run, counted, bound}
 use Rattle.network.specs.Layout.{ring_limits, view, fresh_ring, sound_ring, call_ring}
 use Rattle.network.specs.Answers.{outcome_number, says, answers}
+use Rattle.network.specs.Demand.{AsDefined}
 use Rattle.network.specs.Worked.Edges.{plan, Question, starting, hops_from, naming, heating, slotting, counting, Edge, ask, edges, EdgesHold, worked_calls, WorkedRunHolds, turn_calls, TurnHolds}
 use Rattle.network.proofs.Ground.Splits.{and_left, and_right}
 use Rattle.network.proofs.Memory.Held.{view-fresh}
-use Rattle.network.proofs.Promises.Demand.{ring-safe, ring-demand3, ring-runs, ring-answers, ring-counts}
+use Rattle.network.proofs.Promises.Machine.{counted-seen}
+use Rattle.network.proofs.Promises.Demand.{ring-machine, ring-safe, ring-demand3}
 
 -- from a fresh ring in memory, a run answers what it answers on lists, and leaves what it leaves there
 
@@ -28,27 +30,30 @@ abbrev on_lists : Question → ℕ
 on_lists = ask fresh (λ σ. σ) (call ring_limits)
 
 module _ (calls : List Call) where
+  from-fresh : AsDefined fresh_ring sound_ring view call_ring ring_limits fresh_ring calls
+  from-fresh = ring-demand3.each fresh_ring calls ring-safe.fresh-sound
+
   fresh-answers : answers call_ring calls fresh_ring ≡ answers (call ring_limits) calls fresh
-  fresh-answers = ring-answers calls fresh_ring ring-safe.fresh-sound ∙ ap (answers (call ring_limits) calls) view-fresh
+  fresh-answers = from-fresh.same-answers ∙ ap (answers (call ring_limits) calls) view-fresh
 
   pub fresh-run : view (run call_ring calls fresh_ring) ≡ run (call ring_limits) calls fresh
-  fresh-run = ring-runs calls fresh_ring ring-safe.fresh-sound ∙ ap (run (call ring_limits) calls) view-fresh
+  fresh-run = from-fresh.same-ring ∙ ap (run (call ring_limits) calls) view-fresh
 
   pub fresh-sound : sound_ring (run call_ring calls fresh_ring) ≡ true
-  fresh-sound = (ring-demand3.each fresh_ring calls ring-safe.fresh-sound).still-sound
+  fresh-sound = from-fresh.still-sound
 
   -- and so do further calls
   pub answers-after : (more : List Call) →
       answers call_ring more (run call_ring calls fresh_ring) ≡ answers (call ring_limits) more (run (call ring_limits) calls fresh)
   answers-after more =
-      ring-answers more (run call_ring calls fresh_ring) fresh-sound
+      (ring-demand3.each (run call_ring calls fresh_ring) more fresh-sound).same-answers
       ∙ ap (answers (call ring_limits) more) fresh-run
 
   pub counted-after : (more : List Call) →
-      counted itself call_ring more (run call_ring calls fresh_ring) ≡ counted itself (call ring_limits) more (run (call ring_limits) calls fresh)
+      counted call_ring more (run call_ring calls fresh_ring) ≡ counted (call ring_limits) more (run (call ring_limits) calls fresh)
   counted-after more =
-      ring-counts more (run call_ring calls fresh_ring) fresh-sound
-      ∙ ap (counted itself (call ring_limits) more) fresh-run
+      counted-seen ring_limits fresh_ring sound_ring view call_ring ring-machine more (run call_ring calls fresh_ring) fresh-sound
+      ∙ ap (counted (call ring_limits) more) fresh-run
 
   pub number-after : (a : Call) →
       outcome_number (call_ring a (run call_ring calls fresh_ring)) ≡ outcome_number (call ring_limits a (run (call ring_limits) calls fresh))

@@ -8,19 +8,19 @@ use lib.ListN.{take}
 use Rattle.refusal.specs.declared.Refusal.TheVariants.{NotStarted}
 use Rattle.network.specs.declared.Ring.{Ring}
 use Rattle.network.specs.Counting.{times}
-use Rattle.network.specs.Network.{Network, fresh, channel, on_ring}
+use Rattle.network.specs.Network.{Network, fresh, channel}
 use Rattle.network.specs.Calls.{Delivery, unless}
-use Rattle.network.specs.Runs.{Call, itself, call, run}
+use Rattle.network.specs.Runs.{Call, call, run}
 use Rattle.network.specs.Layout.{ring_limits, view, fresh_ring, sound_ring, call_ring}
-use Rattle.network.specs.Dispatch.{DispatchSaid, told_in, round, deliveries, not_run, ran, after_dispatch, Act, single, dispatch, dispatched, after_act, act_deliveries, stands_for, spelled_out}
+use Rattle.network.specs.Dispatch.{DispatchSaid, told_in, round, on_ring, deliveries, not_run, ran, after_dispatch, Act, single, dispatch, dispatched, after_act, act_deliveries, stands_for, spelled_out}
 use Rattle.network.specs.Worked.Edges.{c0}
 use Rattle.network.specs.Worked.Withdrawals.{matched_pair}
 use Rattle.network.specs.Worked.Rounds.{backward, bare, forward, leaves, WorkedRounds, RoundsTold, WorkedActs, ActsSpelled, RingRounds}
 use Rattle.network.proofs.Ground.Splits.{by-test}
 use Rattle.network.proofs.Worked.Rounds as Worked
-use Rattle.network.proofs.Promises.Machine.{run_sound, calls-run, calls-deliver}
+use Rattle.network.proofs.Promises.Machine.{run_sound, run-seen, deliveries-seen}
 use Rattle.network.proofs.Promises.Demand.{ring-machine}
-use Rattle.network.proofs.Promises.Acts.{act-ring, same-deliveries}
+use Rattle.network.proofs.Promises.Acts.{act-ring, acts-spelled}
 use Rattle.network.proofs.Promises.Dispatch.{rounds-seen, spelled-seen, handed-out-seen, machine-none-too-many}
 use Rattle.network.proofs.Promises.Edges.{fresh-run, fresh-sound, answers-after, counted-after}
 
@@ -41,39 +41,39 @@ told-there given ring ok =
 
 -- and acts stand for the same single calls
 module _ (ring : Ring) (ok : sound_ring ring ≡ true) where
-  stands-there : (a : Act Call ℕ) →
+  stands-there : (a : Act) →
       stands_for sound_ring view call_ring a ring ≡ stands_for (λ σ. true) (λ σ. σ) (call ring_limits) a (view ring)
   stands-there (single a) = refl
   stands-there (dispatch given) =
       rw ok (ap (λ calls. cond (view ring).started calls [])
       (spelled-seen ring_limits fresh_ring sound_ring view call_ring ring-machine given ring ok))
 
-  act-sound : (a : Act Call ℕ) → sound_ring (after_act call_ring (dispatched sound_ring view call_ring) a ring) ≡ true
+  act-sound : (a : Act) → sound_ring (after_act sound_ring view call_ring a ring) ≡ true
   act-sound a =
       rw (act-ring sound_ring view call_ring a ring)
-      (run_sound ring_limits itself fresh_ring sound_ring view call_ring ring-machine (stands_for sound_ring view call_ring a ring) ring ok)
+      (run_sound ring_limits fresh_ring sound_ring view call_ring ring-machine (stands_for sound_ring view call_ring a ring) ring ok)
 
-  after-there : (a : Act Call ℕ) →
-      view (after_act call_ring (dispatched sound_ring view call_ring) a ring) ≡ after_act (call ring_limits) (dispatched (λ σ. true) (λ σ. σ) (call ring_limits)) a (view ring)
+  after-there : (a : Act) →
+      view (after_act sound_ring view call_ring a ring) ≡ after_act (λ σ. true) (λ σ. σ) (call ring_limits) a (view ring)
   after-there a =
       ap view (act-ring sound_ring view call_ring a ring)
-      ∙ calls-run ring_limits fresh_ring sound_ring view call_ring ring-machine (stands_for sound_ring view call_ring a ring) ring ok
+      ∙ run-seen ring_limits fresh_ring sound_ring view call_ring ring-machine (stands_for sound_ring view call_ring a ring) ring ok
       ∙ ap (λ calls. run (call ring_limits) calls (view ring)) (stands-there a)
       ∙ sym (act-ring (λ σ. true) (λ σ. σ) (call ring_limits) a (view ring))
 
-spelled-there : (acts : List (Act Call ℕ)) (ring : Ring) → sound_ring ring ≡ true →
+spelled-there : (acts : List Act) (ring : Ring) → sound_ring ring ≡ true →
     spelled_out sound_ring view call_ring acts ring ≡ spelled_out (λ σ. true) (λ σ. σ) (call ring_limits) acts (view ring)
 spelled-there [] ring ok = refl
 spelled-there (a ∷ acts) ring ok =
-    rw (stands-there ring ok a, spelled-there acts (after_act call_ring (dispatched sound_ring view call_ring) a ring) (act-sound ring ok a), after-there ring ok a)
+    rw (stands-there ring ok a, spelled-there acts (after_act sound_ring view call_ring a ring) (act-sound ring ok a), after-there ring ok a)
 
-handed-there : (acts : List (Act Call ℕ)) (ring : Ring) → sound_ring ring ≡ true →
-    act_deliveries call_ring (dispatched sound_ring view call_ring) acts ring ≡ act_deliveries (call ring_limits) (dispatched (λ σ. true) (λ σ. σ) (call ring_limits)) acts (view ring)
+handed-there : (acts : List Act) (ring : Ring) → sound_ring ring ≡ true →
+    act_deliveries sound_ring view call_ring acts ring ≡ act_deliveries (λ σ. true) (λ σ. σ) (call ring_limits) acts (view ring)
 handed-there acts ring ok =
-    same-deliveries sound_ring view call_ring acts ring
-    ∙ calls-deliver ring_limits fresh_ring sound_ring view call_ring ring-machine (spelled_out sound_ring view call_ring acts ring) ring ok
+    (acts-spelled sound_ring view call_ring acts ring).same-deliveries
+    ∙ deliveries-seen ring_limits fresh_ring sound_ring view call_ring ring-machine (spelled_out sound_ring view call_ring acts ring) ring ok
     ∙ ap (λ calls. deliveries (call ring_limits) calls (view ring)) (spelled-there acts ring ok)
-    ∙ sym (same-deliveries (λ σ. true) (λ σ. σ) (call ring_limits) acts (view ring))
+    ∙ sym (acts-spelled (λ σ. true) (λ σ. σ) (call ring_limits) acts (view ring)).same-deliveries
 
 -- from a fresh ring
 module _ (before : List Call) where
@@ -81,7 +81,7 @@ module _ (before : List Call) where
       view (leaves fresh_ring sound_ring view call_ring before given) ≡ leaves fresh (λ σ. true) (λ σ. σ) (call ring_limits) before given
   leaves-there given =
       after-there (run call_ring before fresh_ring) (fresh-sound before) (dispatch given)
-      ∙ ap (after_act (call ring_limits) (dispatched (λ σ. true) (λ σ. σ) (call ring_limits)) (dispatch given)) (fresh-run before)
+      ∙ ap (after_act (λ σ. true) (λ σ. σ) (call ring_limits) (dispatch given)) (fresh-run before)
 
   worked : {given : ℕ} {told : DispatchSaid} {left : ℕ} → WorkedRounds fresh (λ σ. true) (λ σ. σ) (call ring_limits) before given told left →
       WorkedRounds fresh_ring sound_ring view call_ring before given told left
@@ -94,7 +94,7 @@ module _ (before : List Call) where
         is-left = ap on_ring (leaves-there given) ∙ w.is-left;
       }
 
-  acted : {acts : List (Act Call ℕ)} {calls : List Call} {handed : List Delivery} →
+  acted : {acts : List Act} {calls : List Call} {handed : List Delivery} →
       WorkedActs fresh (λ σ. true) (λ σ. σ) (call ring_limits) before acts calls handed →
       WorkedActs fresh_ring sound_ring view call_ring before acts calls handed
   acted {acts} w =
@@ -105,7 +105,7 @@ module _ (before : List Call) where
             ∙ w.is_spelled;
         is-handed =
             handed-there acts (run call_ring before fresh_ring) (fresh-sound before)
-            ∙ ap (act_deliveries (call ring_limits) (dispatched (λ σ. true) (λ σ. σ) (call ring_limits)) acts) (fresh-run before)
+            ∙ ap (act_deliveries (λ σ. true) (λ σ. σ) (call ring_limits) acts) (fresh-run before)
             ∙ w.is-handed;
       }
 

@@ -10,12 +10,13 @@ use lib.ListN.{length}
 use Rattle.wire.specs.Record.{RecordFits}
 use Rattle.wire.proofs.Good.{good-fits}
 use Rattle.network.specs.declared.Ring.{Ring}
-use Rattle.network.specs.Network.{Network, count_of_nodes, on_ring}
+use Rattle.network.specs.Network.{Network, count_of_nodes}
 use Rattle.network.specs.Calls.{Delivery}
-use Rattle.network.specs.Runs.{Call, itself, is_traffic, call, after}
+use Rattle.network.specs.Runs.{Call, call, after}
 use Rattle.network.specs.Layout.{ring_limits, channel_room, view, fresh_ring, sound_ring, call_ring}
-use Rattle.network.specs.Dispatch.{handed_by}
-pub use Rattle.network.proofs.Lists.Clauses.{sound-started}
+use Rattle.network.specs.Dispatch.{on_ring, handed_by}
+pub use Rattle.network.proofs.Theory.Todo.{goes}
+use Rattle.network.proofs.Lists.Clauses.{sound-started}
 use Rattle.network.proofs.Lists.Tries.{on-ring-few, went}
 use Rattle.network.proofs.Memory.Held.{sound-ring}
 use Rattle.network.proofs.Promises.Machine.{seen-handed, seen_next}
@@ -28,12 +29,12 @@ pub record Tried (ring : Ring) (a : Call) : Type 0 where
   pub fewer : length (handed_by (call_ring a ring)) + on_ring (view (after ring (call_ring a ring))) ≤ on_ring (view ring)
   pub fits : (d : Delivery) → handed_by (call_ring a ring) ≡ d ∷ [] → RecordFits d.«record»
 
-pub tried : (ring : Ring) → sound_ring ring ≡ true → (view ring).started ≡ true → (a : Call) → is_traffic a ≡ true → Tried ring a
+pub tried : (ring : Ring) → sound_ring ring ≡ true → (view ring).started ≡ true → (a : Call) → goes a ≡ true → Tried ring a
 tried ring ok on a g =
     let σ : Network = view ring in
     let w = went ring_limits σ (sound-started ring_limits σ (sound-ring ring ok).sound on) a g in
     let next : view (after ring (call_ring a ring)) ≡ after σ (call ring_limits a σ) =
-    seen_next ring_limits itself fresh_ring sound_ring view call_ring ring-machine a ring ok in
+    seen_next ring_limits fresh_ring sound_ring view call_ring ring-machine a ring ok in
     let handed : handed_by (call_ring a ring) ≡ handed_by (call ring_limits a σ) =
     seen-handed view (call_ring a ring) ∙ ap handed_by (ring-machine.step-seen a ring ok) in
     record {

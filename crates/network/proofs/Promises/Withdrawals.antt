@@ -2,7 +2,7 @@
 -- does (those of deeds are in Worked/Deeds); what 28 means; and a matched pair that is withdrawn, of which neither case of `Served` holds.
 use Prim.Native.Nat.{ℕ, zero, suc}
 use mathlib.Core.Path.{◌≡◌, refl, sym, ap, ◌∙◌}
-use mathlib.Core.Bool.{true, false, false≢true}
+use mathlib.Core.Bool.{false, ◌||◌, false≢true}
 use mathlib.Core.List.{List, [], ◌∷◌, ◌++◌}
 use native.Mathlib.Omega.{arith}
 use lib.Dec.{ltb}
@@ -14,9 +14,9 @@ use Rattle.network.specs.Network.{Network, fresh, node_no, times_in, node, chann
 use Rattle.network.specs.Sound.{sound_node, sound_channel, sound_after, sound}
 use Rattle.network.specs.Calls.{arrival}
 use Rattle.network.specs.Calls
-use Rattle.network.specs.Runs.{Call, add_node, add_channel, start, receive, send, enter, move, withdraw, hops_left, waiting_set, itself, is_traffic, call, run, is_accepted, counted, bound}
+use Rattle.network.specs.Runs.{Call, enter, move, withdraw, call, run, is_accepted, counted, bound}
 use Rattle.network.specs.Layout.{ring_limits}
-use Rattle.network.specs.Answers.{CallSaid, answers}
+use Rattle.network.specs.Answers.{Said, answers}
 use Rattle.network.specs.Worked.Edges.{n0, c0, worked_record}
 use Rattle.network.specs.Worked.Dummies.{begun, in_line}
 use Rattle.network.specs.Worked.Withdrawals.{WorkedList, WorkedCount, matched_pair, three_here, from_between, WithdrawalsAnswer, CallsCounted, Means28, ExceptionNeeded}
@@ -31,10 +31,10 @@ abbrev on_lists : List Call → Network
 on_lists before = run (call ring_limits) before fresh
 
 module _ {before calls : List Call} where
-  answered : {said : List CallSaid} → answers (call ring_limits) calls (on_lists before) ≡ said → WorkedList before calls said
+  answered : {said : List Said} → answers (call ring_limits) calls (on_lists before) ≡ said → WorkedList before calls said
   answered e = record { is-answered = answers-after before calls ∙ e }
 
-  count-is : {n : ℕ} → counted itself (call ring_limits) calls (on_lists before) ≡ n → WorkedCount before calls n
+  count-is : {n : ℕ} → counted (call ring_limits) calls (on_lists before) ≡ n → WorkedCount before calls n
   count-is e = record { is-counted = counted-after before calls ∙ e }
 
 pub withdrawals-answer : WithdrawalsAnswer
@@ -88,28 +88,16 @@ means-28 L σ k ok on known asks =
 given_up : Network
 given_up = run (call ring_limits) (withdraw c0 ∷ []) in_line
 
-stuck_at : (p : ℕ) →
-    (is_accepted (call ring_limits (enter (node_no p)) given_up) ≡ false) × (is_accepted (call ring_limits (move (node_no p)) given_up) ≡ false)
+stuck : (p : ℕ) →
+    (is_accepted (call ring_limits (enter (node_no p)) given_up) || is_accepted (call ring_limits (move (node_no p)) given_up)) ≡ false
 unfolding given_up begun in_line sum weigh send_verdict blank_ends blank_at_end verdict_of batch_good temp_good name_length_good name_good widths_good name_cells_good Calls.add_node Calls.add_channel Calls.start Calls.receive Calls.send Calls.enter Calls.move Calls.withdraw
-stuck_at zero = (refl, refl)
-stuck_at (suc zero) = (refl, refl)
-stuck_at (suc (suc p)) = let beyond = le-ltb (suc (suc p)) 2 (omega arith) in (rw beyond refl, rw beyond refl)
-
-stuck : (a : Call) → is_traffic a ≡ true → is_accepted (call ring_limits a given_up) ≡ false
-stuck (enter p) t = (stuck_at p.0).0
-stuck (move p) t = (stuck_at p.0).1
-stuck (add_node slots) t = absurd (false≢true t)
-stuck (add_channel p q) t = absurd (false≢true t)
-stuck start t = absurd (false≢true t)
-stuck (receive k) t = absurd (false≢true t)
-stuck (send k x) t = absurd (false≢true t)
-stuck (withdraw k) t = absurd (false≢true t)
-stuck (hops_left k) t = absurd (false≢true t)
-stuck (waiting_set p) t = absurd (false≢true t)
+stuck zero = refl
+stuck (suc zero) = refl
+stuck (suc (suc p)) = rw (le-ltb (suc (suc p)) 2 (omega arith)) refl
 
 pub exception-needed : ExceptionNeeded
 unfolding given_up begun in_line sound sound_node sound_channel sound_after sum weigh all_below send_verdict blank_ends blank_at_end verdict_of good_record batch_good temp_good name_length_good name_good widths_good name_cells_good Calls.add_node Calls.add_channel Calls.start Calls.receive Calls.send Calls.withdraw
 exception-needed served =
     neither (call ring_limits) c0 worked_record in_line (withdraw c0 ∷ []) refl
-    (λ u. false≢true (sym (stuck u.next u.is-traffic) ∙ u.next-accepted))
+    (λ u. false≢true (sym (stuck u.at.0) ∙ u.next-accepted))
     (served in_line c0 worked_record (withdraw c0 ∷ []) refl refl refl)

@@ -16,7 +16,7 @@ use Rattle.hops.proofs.Laws.{hops-to-n, hops-step, hops-next, next-below}
 use Rattle.network.specs.Counting.{one, sum, weigh, count}
 use Rattle.network.specs.Network.{Phase, resting, asking, ready, answering, channel_no, moving}
 use Rattle.network.specs.Calls.{Event, done, delivered, Delivery, delivery_in}
-use Rattle.network.specs.Runs.{Call, add_node, add_channel, start, receive, send, enter, move, withdraw, hops_left, waiting_set, is_traffic, on_channel, handed_on}
+use Rattle.network.specs.Runs.{Call, add_node, add_channel, start, receive, send, enter, move, withdraw, hops_left, waiting_set, on_channel, handed_on}
 use Rattle.network.specs.Dispatch.{listed}
 use Rattle.network.proofs.Ground.Splits.{by-phase}
 use Rattle.network.proofs.Ground.Counting.{sum_same, sum-le, sum-add, sum-times, sum-term, count_same, length-snoc, one-most}
@@ -25,6 +25,19 @@ use Rattle.network.proofs.Theory.Load.{sum-upd, load, load-pop, load-join, load-
 use Rattle.network.proofs.Theory.Weight.{messages, quiet, all-channels, target_below}
 use Rattle.network.proofs.Theory.Kept.{off-pop, first_passes, first-moving}
 use Rattle.network.proofs.Theory.Order.{on_same, on-other}
+
+-- the calls that a dispatcher tries: entries and moves
+abbrev pub goes : Call → Bool
+goes (add_node slots) = false
+goes (add_channel s r) = false
+goes start = false
+goes (receive k) = false
+goes (send k x) = false
+goes (enter p) = true
+goes (move p) = true
+goes (withdraw k) = false
+goes (hops_left k) = false
+goes (waiting_set p) = false
 
 -- the message of a channel, 1 where it has one on the ring
 abbrev pub message : State → ℕ → ℕ
@@ -57,7 +70,7 @@ pub data Turn (c : ℕ) (σ τ : State) : Event → Type 0 where
 module _ (N : Net) where
   open N use {n, c, slots, sender, receiver}
 
-  pub turn-did : {σ τ : State} {a : Call} {e : Event} → Sound N σ → is_traffic a ≡ true → Did N σ a e τ → Turn c σ τ e
+  pub turn-did : {σ τ : State} {a : Call} {e : Event} → Sound N σ → goes a ≡ true → Did N σ a e τ → Turn c σ τ e
   turn-did s g (did-receive k lk rests) = absurd (false≢true g)
   turn-did s g (did-offer k x lk good bare busy) = absurd (false≢true g)
   turn-did s g (did-answer k x lk good is-ready) = absurd (false≢true g)
@@ -162,7 +175,7 @@ module _ (N : Net) where
         omega (arith, popped, less, load-pass N (way_in σ) (pop p ks σ) (next n p) (next-below n p lp) k)
 
   -- An entry takes one off; so does a hop, and a request that is answered at once. One that finds no record takes its response's way with it.
-  pub todo-falls : {σ τ : State} {a : Call} {e : Event} → Sound N σ → is_traffic a ≡ true → Did N σ a e τ → suc (todo τ) ≤ todo σ
+  pub todo-falls : {σ τ : State} {a : Call} {e : Event} → Sound N σ → goes a ≡ true → Did N σ a e τ → suc (todo τ) ≤ todo σ
   unfolding todo
   todo-falls s g (did-receive k lk rests) = absurd (false≢true g)
   todo-falls s g (did-offer k x lk good bare busy) = absurd (false≢true g)

@@ -11,8 +11,7 @@ use Rattle.network.specs.declared.Ring.{Ring}
 use Rattle.network.specs.Network.{Network, asking, answering, fresh, channel, is_channel, with_channel}
 use Rattle.network.specs.Sound.{absent}
 use Rattle.network.specs.Calls.{Outcome}
-use Rattle.network.specs.Runs.{Call, itself, receive, send, enter, move, withdrawn, call, run, deeds, matched}
-use Rattle.network.specs.Dispatch.{Act, records_on, act_deliveries, dispatched}
+use Rattle.network.specs.Runs.{Call, receive, send, enter, move, withdrawn, call, run, deeds, delivered_on, matched}
 use Rattle.network.specs.Layout.{ring_limits, view, hold, fresh_ring, sound_ring, call_ring}
 use Rattle.network.specs.Answers.{says, delivers, outcome_number, answers}
 use Rattle.network.specs.Demand.{InTime, UnderWay}
@@ -128,11 +127,9 @@ abbrev pub StillServed : Type 0
 StillServed =
     (ring : Ring) (m : ChannelNo) (x : BatchRecord) (calls : List Call) →
     sound_ring ring ≡ true → (view ring).started ≡ true → matched (view ring) m ≡ some x → send_verdict x ≡ Refused BlankEnd →
-    withdrawn m (deeds itself call_ring calls ring) ≡ false →
-    InTime itself fresh_ring sound_ring view call_ring ring m x calls ⊎ UnderWay itself fresh_ring sound_ring view call_ring ring m calls
+    withdrawn m (deeds call_ring calls ring) ≡ false →
+    InTime fresh_ring sound_ring view call_ring ring m x calls ⊎ UnderWay fresh_ring sound_ring view call_ring ring m calls
 
--- From a fresh ring, no record is delivered whose name begins or ends with a blank, by a single call or by the dispatcher.
+-- From a fresh ring, no record is delivered whose name begins or ends with a blank.
 abbrev pub NoneDelivered : Type 0
-NoneDelivered =
-    (k : ChannelNo) (acts : List (Act Call ℕ)) →
-    every (λ x. not (blank_ends x)) (records_on k (act_deliveries call_ring (dispatched sound_ring view call_ring) acts fresh_ring)) ≡ true
+NoneDelivered = (k : ChannelNo) (calls : List Call) → every (λ x. not (blank_ends x)) (delivered_on call_ring k calls fresh_ring) ≡ true

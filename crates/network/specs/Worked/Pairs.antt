@@ -12,7 +12,7 @@ use Rattle.network.specs.Calls.{Outcome, refused}
 use Rattle.network.specs.Runs.{Call, receive, enter, move, call, run}
 use Rattle.network.specs.Demand.{checked_call}
 use Rattle.network.specs.Layout.{ring_limits, view, hold, call_ring}
-use Rattle.network.specs.Answers.{CallSaid, says, delivers, answers}
+use Rattle.network.specs.Answers.{Said, says, delivers, answers}
 use Rattle.network.specs.Worked.Edges.{n0, n1, n2, c0, c1, c2, worked_record}
 use Rattle.network.specs.Worked.Withdrawals.{ring_after, one_waits}
 use Rattle.network.specs.Commute.{Traffic, entry_at, move_at, as_call, Touches, Apart, Commute, EndsCommute}
@@ -53,7 +53,7 @@ stands_twice = four_nodes (c0 ∷ []) (c0 ∷ []) (runs_from n1 n3 asking (some 
 
 module _ {S : Type 0} (seen : S → Network) (step : Call → S → Outcome S) where
   -- a and b touch no common node; what they say, whichever comes first, and that they leave one ring
-  pub record EitherWay (s : S) (a b : Traffic) (x y : CallSaid) : Type 0 where
+  pub record EitherWay (s : S) (a b : Traffic) (x y : Said) : Type 0 where
     pub no-common : Apart (count_of_nodes (seen s)) a b
     pub one-way : answers step (as_call a ∷ as_call b ∷ []) s ≡ x ∷ y ∷ []
     pub other_way : answers step (as_call b ∷ as_call a ∷ []) s ≡ y ∷ x ∷ []

@@ -4,12 +4,12 @@
 use Rattle.std.specs.Prelude.{ℕ, suc, ◌<◌, ◌≡◌, Bool, true, false, List, [], ◌∷◌, ◌++◌, map, pos, take, replicate}
 use Rattle.batch.specs.declared.BatchRecord.{BatchRecord}
 use Rattle.network.specs.Counting.{times}
-use Rattle.network.specs.Network.{Network, resting, ready, node_no, channel_no, channel, on_ring, still}
+use Rattle.network.specs.Network.{Network, resting, ready, node_no, channel_no, channel}
 use Rattle.network.specs.Calls.{Delivery, Outcome}
-use Rattle.network.specs.Runs.{Call, itself, receive, send, enter, run, counted}
+use Rattle.network.specs.Runs.{Call, receive, send, enter, run, counted}
 use Rattle.network.specs.Layout.{view, fresh_ring, sound_ring, call_ring}
 use Rattle.network.specs.Answers.{says, delivers, answers}
-use Rattle.network.specs.Dispatch.{DispatchSaid, told_in, round, after_dispatch, Act, single, dispatch, rounds_made, spelled, dispatched, run_acts, act_deliveries, spelled_out}
+use Rattle.network.specs.Dispatch.{DispatchSaid, told_in, round, on_ring, still, after_dispatch, Act, single, dispatch, rounds_made, spelled, dispatched, run_acts, act_deliveries, spelled_out}
 use Rattle.network.specs.Worked.Edges.{ends, plan, sample, c0, worked_record}
 use Rattle.network.specs.Worked.Withdrawals.{begin, one_way, one_waits, two_same, matched_pair}
 
@@ -106,9 +106,9 @@ module _ {S : Type 0} (fresh : S) (sound : S → Bool) (seen : S → Network) (s
       (rounds_made sound seen step fewer s ≡ fewer) × (still (seen (run step (spelled sound seen step fewer s) s)) ≡ false)
 
   -- after these calls, these acts stand for these single calls, with these deliveries
-  pub record WorkedActs (before : List Call) (acts : List (Act Call ℕ)) (calls : List Call) (handed : List Delivery) : Type 0 where
+  pub record WorkedActs (before : List Call) (acts : List Act) (calls : List Call) (handed : List Delivery) : Type 0 where
     pub is_spelled : spelled_out sound seen step acts (begun before) ≡ calls
-    pub is-handed : act_deliveries step (dispatched sound seen step) acts (begun before) ≡ handed
+    pub is-handed : act_deliveries sound seen step acts (begun before) ≡ handed
 
   pub record ActsSpelled : Type 0 where
     -- The matched pair of Withdrawals: two rounds of four tries each. The two that are refused are among them, and are not counted: six
@@ -117,13 +117,13 @@ module _ {S : Type 0} (fresh : S) (sound : S → Bool) (seen : S → Network) (s
     pub pair-answers :
         answers step (times 2 (round 2)) (begun matched_pair)
         ≡ map says (0 ∷ 0 ∷ 17 ∷ 0 ∷ 0 ∷ 0 ∷ 17 ∷ []) ++ (delivers c0 worked_record ∷ [])
-    pub pair-counted : counted itself step (times 2 (round 2)) (begun matched_pair) ≡ 6
+    pub pair-counted : counted step (times 2 (round 2)) (begun matched_pair) ≡ 6
     -- the record is delivered in the middle of a round, whose tries go on: four are counted up to the move that delivers, the sixth
     pub mid-round : WorkedActs forward (dispatch 12 ∷ []) (times 2 (round 2)) (delivery 0 (record_of 0) ∷ [])
     pub mid-round-answers :
         answers step (times 2 (round 2)) (begun forward)
         ≡ map says (17 ∷ 19 ∷ 0 ∷ 0 ∷ 0 ∷ []) ++ (delivers c0 (record_of 0) ∷ says 17 ∷ says 19 ∷ [])
-    pub mid-round-counted : counted itself step (take 6 (times 2 (round 2))) (begun forward) ≡ 4
+    pub mid-round-counted : counted step (take 6 (times 2 (round 2))) (begun forward) ≡ 4
     -- dispatcher calls among single calls; one that finds nothing on the ring stands for none
     pub among-others :
         WorkedActs one_way (dispatch 7 ∷ single (ask 0) ∷ dispatch 7 ∷ dispatch 7 ∷ single (offer 0) ∷ dispatch 7 ∷ [])
@@ -132,7 +132,7 @@ module _ {S : Type 0} (fresh : S) (sound : S → Bool) (seen : S → Network) (s
   -- a dispatcher call that is refused tells its number alone, leaves the ring and stands for no call
   pub record RoundsRefused (number given : ℕ) (s : S) : Type 0 where
     pub is-told : told_in (dispatched sound seen step given s) ≡ turns_down number
-    pub ring-stays : run_acts step (dispatched sound seen step) (dispatch given ∷ []) s ≡ s
+    pub ring-stays : run_acts sound seen step (dispatch given ∷ []) s ≡ s
     pub stands-for-none : spelled_out sound seen step (dispatch given ∷ []) s ≡ []
 
   -- 25, then 8

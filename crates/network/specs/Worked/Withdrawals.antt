@@ -11,9 +11,9 @@ use Rattle.network.specs.Counting.{times}
 use Rattle.network.specs.Network.{Network, fresh, channel_no, times_in, node, channel, is_node, is_channel}
 use Rattle.network.specs.Sound.{Limits, is_asking, sound}
 use Rattle.network.specs.Calls.{in_receiver_line}
-use Rattle.network.specs.Runs.{Call, itself, start, receive, send, enter, move, withdraw, Deed, received, withdrew, stepped, silent, withdrawn, count_of, call, run, counted, matched, bound}
+use Rattle.network.specs.Runs.{Call, start, receive, send, enter, move, withdraw, Deed, received, withdrew, stepped, silent, withdrawn, count_of, call, run, counted, matched, bound}
 use Rattle.network.specs.Layout.{ring_limits, view, fresh_ring, call_ring}
-use Rattle.network.specs.Answers.{CallSaid, says, delivers, answers}
+use Rattle.network.specs.Answers.{Said, says, delivers, answers}
 use Rattle.network.specs.Demand.{InTime, UnderWay}
 use Rattle.network.specs.Worked.Edges.{Ends, ends, plan, n0, n1, c0, c1, c2, worked_record}
 
@@ -28,11 +28,11 @@ begin slots ends = plan slots ends ++ (start ∷ [])
 abbrev pub ring_after : List Call → Ring
 ring_after before = run call_ring before fresh_ring
 
-pub record WorkedList (before calls : List Call) (said : List CallSaid) : Type 0 where
+pub record WorkedList (before calls : List Call) (said : List Said) : Type 0 where
   pub is-answered : answers call_ring calls (ring_after before) ≡ said
 
 pub record WorkedCount (before calls : List Call) (n : ℕ) : Type 0 where
-  pub is-counted : counted itself call_ring calls (ring_after before) ≡ n
+  pub is-counted : counted call_ring calls (ring_after before) ≡ n
 
 -- The plans: a channel from node 1 to node 0; three same-node channels; requests that pass a node where others wait, one or two; and two
 -- same-node channels, P2 of document 01.
@@ -168,8 +168,8 @@ abbrev pub ServedAlways : Type 0
 ServedAlways =
     (σ : Network) (m : ChannelNo) (x : BatchRecord) (calls : List Call) →
     sound ring_limits σ ≡ true → σ.started ≡ true → matched σ m ≡ some x →
-    InTime itself fresh (sound ring_limits) (λ τ. τ) (call ring_limits) σ m x calls
-    ⊎ UnderWay itself fresh (sound ring_limits) (λ τ. τ) (call ring_limits) σ m calls
+    InTime fresh (sound ring_limits) (λ τ. τ) (call ring_limits) σ m x calls
+    ⊎ UnderWay fresh (sound ring_limits) (λ τ. τ) (call ring_limits) σ m calls
 
 abbrev pub ExceptionNeeded : Type 0
 ExceptionNeeded = ServedAlways → ⊥

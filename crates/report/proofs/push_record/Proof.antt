@@ -23,7 +23,7 @@ returns c =
     let said = channel.before.before.before.before in
     let start = said.before.before.before.before.before.before in
     let signed-field = rw (to_z-of_z (temperature-fits start)) at temperature.push-signed.ensures in
-    said.push-all.ensures
+    said.push-all.ensures.0
     then (channel.push-field.ensures
     then batch.push-field2.ensures
     then vessel.push-field3.ensures

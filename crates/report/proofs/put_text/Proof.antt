@@ -17,9 +17,9 @@ returns-3 : tie.Need-returns-3
 returns-3 c =
     let pushed = c.before.before in
     let start = pushed.before.before.before.before.before.before in
-    let written = pushed.push-all.ensures in
+    let laid = pushed.push-all.ensures in
     let there = room start.args.bytes.now start.args.place start.args.line.now (omega arith) in
-    (ap Written written.ends ∙ there.0, written.whole ∙ there.1)
+    (ap Written laid.0.ends ∙ there.0, laid.1 ∙ there.1)
 
 pub put-text-spec : {M : Type 1} → statement M
 put-text-spec =

@@ -6,17 +6,19 @@ use types.Run.{OneOf, miss}
 use denote.Enum.Declared.{tag_of}
 use borrow.Author.Rules.{rules}
 use Rattle.network.specs.declared.Answer.{Answer}
-use Rattle.network.specs.declared.Answer.TheVariants.{Done, Delivered, Refused}
+use Rattle.network.specs.declared.Answer.TheVariants.{Done, Delivered, Hops, Waiting, Refused}
 use Rattle.network.specs.Answers.{number_in}
 use Rattle.network.specs.contracts.Answer.{the_type}
 use Rattle.report.proofs.refusal_in.Statement.{statement}
 use Rattle.report.proofs.refusal_in.Tie as tie
 
 -- the tags of the answers that refuse nothing
-others : (a : Answer) → OneOf (0 ∷ 1 ∷ []) (tag_of the_type a) → ◌≡◌ {A = ℕ} 0 (number_in a)
+others : (a : Answer) → OneOf (0 ∷ 1 ∷ 2 ∷ 3 ∷ []) (tag_of the_type a) → ◌≡◌ {A = ℕ} 0 (number_in a)
 others Done k = refl
 others (Delivered c) k = refl
-others (Refused r) k = absurd (miss (0 ∷ 1 ∷ []) 2 tt k)
+others (Hops h) k = refl
+others (Waiting w) k = refl
+others (Refused r) k = absurd (miss (0 ∷ 1 ∷ 2 ∷ 3 ∷ []) 4 tt k)
 
 returns : tie.Need-returns
 returns c = c.number.ensures ∙ sym (ap number_in c.before.before.answer.given.1)

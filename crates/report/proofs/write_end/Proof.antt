@@ -19,7 +19,7 @@ returns c =
     let said = accepted.before.before.before in
     built _ _
     (up_to (omega arith)
-    (said.push-all.ensures
+    (said.push-all.ensures.0
     then accepted.push-field.ensures
     then refused.push-field2.ensures
     then end.push.ensures))

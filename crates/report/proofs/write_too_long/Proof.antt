@@ -15,7 +15,7 @@ returns c =
     let put = c.before.before in
     let end = put.before.before.before.before in
     let said = end.before.before.before in
-    built _ _ (up_to (omega arith) (said.push-all.ensures then end.push.ensures)) put.put-text.ensures
+    built _ _ (up_to (omega arith) (said.push-all.ensures.0 then end.push.ensures)) put.put-text.ensures
 
 pub write-too-long-spec : {M : Type 1} → statement M
 write-too-long-spec =

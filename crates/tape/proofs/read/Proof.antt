@@ -12,15 +12,13 @@ use Rattle.wire.specs.Record.{fields_in}
 use Rattle.wire.proofs.Buffer.{tail}
 use Rattle.command.specs.declared.Command.{Command}
 use Rattle.tape.specs.declared.Reading.{Reading}
-use Rattle.tape.specs.declared.CommandRow as made
+use Rattle.tape.specs.declared.Row as made
 use Rattle.tape.specs.Shape.{width_of, fields_with}
-use Rattle.tape.specs.Table.{CommandRow, row_of, row_with, command_in}
-use Rattle.tape.specs.Tape.{read_at, read_row}
-use Rattle.tape.specs.Said.{said_in_read, read_said}
+use Rattle.tape.specs.Table.{Row, row_of, row_with, command_in}
+use Rattle.tape.specs.Tape.{read_at, read_row, read_number}
 use Rattle.tape.specs.RoundTrip.{found, WritesBack}
 use Rattle.tape.proofs.Cases.{by_row, row-unknown, row_cut, row-found}
 use Rattle.tape.proofs.RoundTrip.{writes-back}
-use Rattle.tape.proofs.Said.{reading-said}
 use Rattle.tape.proofs.read.Statement.{statement}
 use Rattle.tape.proofs.read.Tie as tie
 
@@ -34,10 +32,10 @@ module _ (k : tie.After-shared-slice-known) where
 
   -- what is promised of an answer follows from the definition
   answered : (r : Reading) → r ≡ read_at bytes place
-      → (r ≡ read_at bytes place) × (WritesBack r.answer bytes place r.command × (said_in_read r.answer r.command ≡ read_said bytes place))
+      → (r ≡ read_at bytes place) × (WritesBack r.answer bytes place r.command × (read_number r.answer ≡ read_number (read_at bytes place).answer))
   answered r e = (
     e,
-    (writes-back bytes place r (λ i. (k.shared-slice-known.given i).fits) e, ap (λ (x : Reading). said_in_read x.answer x.command) e ∙ reading-said bytes place),
+    (writes-back bytes place r (λ i. (k.shared-slice-known.given i).fits) e, ap (λ (x : Reading). read_number x.answer) e),
   )
 
 -- where a command byte stands, its row decides
@@ -51,7 +49,7 @@ module _ (w : tie.After-width-of) where
   abbrev rest : List ℕ
   rest = drop (place known) (bytes known)
 
-  abbrev row : CommandRow
+  abbrev row : Row
   row = row_of (get_or (bytes known) (place known) 0)
 
   by_width : read_at (bytes known) (place known) ≡ read_row row (place known) rest
@@ -62,7 +60,7 @@ module _ (w : tie.After-width-of) where
       w.before.row_in.ensures ∙ ap (λ (t : List ℕ). row_with row (number_at 1 1 t) (number_at 2 1 t)) (tail (bytes known) (place known))
 
   wide : w.width_of_lem.result ≡ width_of row.shape
-  wide = w.width_of_lem.ensures ∙ ap (λ (r : made.CommandRow). width_of r.shape) row_read
+  wide = w.width_of_lem.ensures ∙ ap (λ (r : made.Row). width_of r.shape) row_read
 
 returns : tie.Need-returns
 unfolding read_at
@@ -99,8 +97,8 @@ command-is c =
     let fields_read : c.fields_in.result ≡ fields_with (row w).shape (fields_in (drop 2 (rest w)))
     = c.fields_in.ensures
     ∙ ap (λ (t : List ℕ). fields_with w.before.row_in.result.shape (fields_in (drop 2 t))) (tail (bytes (known w)) (place (known w)))
-    ∙ ap (λ (r : made.CommandRow). fields_with r.shape (fields_in (drop 2 (rest w)))) (row_read w) in
-    ap (λ (r : made.CommandRow). record { action = r.action; fields = c.fields_in.result }) (row_read w)
+    ∙ ap (λ (r : made.Row). fields_with r.shape (fields_in (drop 2 (rest w)))) (row_read w) in
+    ap (λ (r : made.Row). record { action = r.action; fields = c.fields_in.result }) (row_read w)
     ∙ ap
     (λ (x : Fields). record { action = (row w).action (number_at 1 1 (rest w)) (number_at 2 1 (rest w)); fields = x })
     fields_read

@@ -12,16 +12,14 @@ use Rattle.wire.specs.Record.{FieldsFit}
 use Rattle.wire.proofs.Buffer.{tail, lent}
 use Rattle.command.specs.declared.Command.{Command}
 use Rattle.tape.specs.declared.Parts.{Parts}
-use Rattle.tape.specs.declared.CommandRow as made
+use Rattle.tape.specs.declared.Row as made
 use Rattle.tape.specs.declared.Shape.{Shape}
 use Rattle.tape.specs.declared.Writing.TheVariants.{Written}
 use Rattle.tape.specs.Shape.{width_of, bytes_with}
 use Rattle.tape.specs.Table.{row_of, parts_of, shape_of, width, bytes_of}
-use Rattle.tape.specs.Tape.{write_at, after_write}
-use Rattle.tape.specs.Said.{said_in_write}
+use Rattle.tape.specs.Tape.{write_at, after_write, write_number}
 use Rattle.tape.specs.RoundTrip.{OperandsFit}
 use Rattle.tape.proofs.RoundTrip.{reads-back}
-use Rattle.tape.proofs.Said.{writing-said}
 use Rattle.tape.proofs.write.Statement.{statement}
 use Rattle.tape.proofs.write.Tie as tie
 
@@ -62,7 +60,7 @@ module _ (w : tie.After-width-of) where
 
   shaped : w.before.row-of.result.shape ≡ shape_of (command apart).action
   shaped =
-      ap (λ (r : made.CommandRow). r.shape) w.before.row-of.ensures
+      ap (λ (r : made.Row). r.shape) w.before.row-of.ensures
       ∙ ap (λ (p : Parts). (row_of p.code).shape) apart.parts-of.ensures
 
   wide : w.width_of_lem.result ≡ width (command apart)
@@ -102,7 +100,7 @@ returns-3 c =
     let buffer =
     lent a.bytes.now _ (bytes_of a.command) a.place (put.put-command.ensures ∙ ap (overwritten _ 0) (bytes-are w)) in
     let again = reads-back a.bytes.now _ a.place a.command _ (operands-fit (apart w)) (fields_fit (start (apart w))) answer buffer in
-    (answer, (buffer, (again, ap said_in_write answer ∙ writing-said a.bytes.now a.place a.command)))
+    (answer, (buffer, (again, ap write_number answer)))
 
 pub write_spec : {M : Type 1} → statement M
 write_spec =

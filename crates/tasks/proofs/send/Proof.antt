@@ -13,8 +13,9 @@ use Rattle.network.specs.Runs
 use Rattle.network.specs.Layout.{ring_in}
 use Rattle.updates.specs.Known.{AtChannel}
 use Rattle.updates.proofs.Openings.{turns-away, channel-open, refuses, accepts}
+use Rattle.updates.proofs.Messages.{response-made}
 use Rattle.updates.proofs.Reading.{channel-within}
-use Rattle.tasks.proofs.Offers.{send-bad, send-again, send-offered, send-room, response-sent}
+use Rattle.tasks.proofs.Offers.{send-bad, send-again, send-offered, send-room, send-responds}
 use Rattle.tasks.proofs.send.Statement.{statement}
 use Rattle.tasks.proofs.send.Tie as tie
 
@@ -37,7 +38,7 @@ module _ (c : tie.After-make) where
   made = let a = (start there.before.before).args in record_from a.scale a.fields
 
   verdict-is : c.make.result.verdict ≡ send_verdict made
-  verdict-is = ap (λ (s : Sent). s.verdict) c.make.ensures.0 ∙ sent-verdict _ _
+  verdict-is = ap (λ (s : Sent). s.verdict) c.make.ensures ∙ sent-verdict _ _
 
 returns-2 : tie.Need-returns-2
 returns-2 c =
@@ -62,7 +63,7 @@ module _ (c : tie.After-struct-known) where
   good = sym (verdict-is judged) ∙ no-refusal _ c.before.before.before.match2.keys2
 
   goes-out : judged.make.result.«record» ≡ sent
-  goes-out = ap (λ (s : Sent). s.«record») judged.make.ensures.0 ∙ sent-record _ _ good
+  goes-out = ap (λ (s : Sent). s.«record») judged.make.ensures ∙ sent-record _ _ good
 
   known : AtChannel (given (there judged).before.before) (start (there judged).before.before).args.channel.0
   known = at-channel (there judged)
@@ -94,8 +95,9 @@ returns-4 c =
     let answers = c.before in
     let waits = answers.before.before.before in
     let free = waits.before.before in
-    response-sent (known (fine free)) _ (good (fine free)) free.if1.false waits.if2.true (goes-out (fine free))
-    answers.respond.ensures c.accept.ensures
+    response-made _ _ (send-responds (known (fine free)) _ (good (fine free)) free.if1.false waits.if2.true)
+    (rw (goes-out (fine free)) at answers.respond.ensures)
+    c.accept.ensures
 
 -- it does not, and the record is offered
 set-record-requires : tie.Need-set-record-requires

@@ -6,8 +6,8 @@ use native.Mathlib.Numerals.{add-one}
 use lib.ListN.{length, length-set}
 use lib.Seq.{paste, paste-zero, paste-suc, take-length}
 use borrow.Author.Rules.{rules}
-use Rattle.batch.specs.Buffer.{overwritten}
-use Rattle.text.proofs.Appends.{overwritten-appends}
+use Rattle.text.specs.Fields.{laid}
+use Rattle.text.proofs.Appends.{laid-appends}
 use Rattle.text.proofs.push_all.Statement.{statement}
 use Rattle.text.proofs.push_all.Tie as tie
 
@@ -32,13 +32,12 @@ loop-again c =
     (omega arith, l.invariant.1, simp length-set l.invariant.2, rw (l.invariant.3, add-one) turn)
 
 returns : tie.Need-returns invariant-loop decreases-loop
-unfolding overwritten
 returns c =
     let l = c.before.loop in
     let a = c.before.before.args in
     let end : l.i ≡ length a.bytes.now = omega arith in
-    let whole : l.text ≡ overwritten a.text.now a.at a.bytes.now = l.invariant.3 ∙ rw (end, take-length a.bytes.now) in
-    rw (whole, end) (overwritten-appends _ _ _ l.invariant.1)
+    let whole : l.text ≡ laid a.text.now a.at a.bytes.now = l.invariant.3 ∙ rw (end, take-length a.bytes.now) in
+    (rw (whole, end) (laid-appends _ _ _ l.invariant.1), whole)
 
 pub push-all-spec : {M : Type 1} → statement M
 push-all-spec =

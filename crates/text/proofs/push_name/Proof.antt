@@ -54,7 +54,7 @@ module _ (c : tie.After-name-end) where
       rw (← e) (some-name name λ z. c.before.if1.false (omega (arith, size, ended, full start)))
 
 returns : tie.Need-returns
-returns c = rw c.if1.true (nothing (omega arith))
+returns c = rw c.if1.true nothing
 
 -- where the space was put, and before it where the end was known
 abbrev spaced : tie.After-cells → tie.After-push
@@ -68,7 +68,7 @@ returns-2 c =
     let lent = c.before.before in
     let end = at-end lent.before in
     rw (named end)
-    (up_to (omega (arith, size end)) ((spaced lent.before).push.ensures then lent.push-all.ensures))
+    (up_to (omega (arith, size end)) ((spaced lent.before).push.ensures then lent.push-all.ensures.0))
 
 pub push-name-spec : {M : Type 1} → statement M
 push-name-spec =

@@ -1,16 +1,14 @@
 -- `vessel_history_note` meets its contract: it hands the table on to `history::note` (HandingOn.antt of `lent`) and tells the answer.
-use mathlib.Core.Path.{◌≡◌, refl}
+use mathlib.Core.Path.{refl}
 use mathlib.Core.List.{[], ◌∷◌}
 use base.Logic.{emp}
 use contract.Monad.{fact_i}
 use Rattle.refusal.specs.Number.{verdict_number}
 use Rattle.history.specs.History as History
-use Rattle.history.specs.Said.{note_said}
 use Rattle.lent.proofs.Around.{called, passed, told}
-use Rattle.lent.proofs.HandingOn.{hands-on-also}
+use Rattle.lent.proofs.HandingOn.{hands_on}
 use Rattle.lent.proofs.Handles.{mut_slice}
 use Rattle.lent.proofs.Params.{u8-kind}
-use Rattle.history.proofs.Said.{note-said}
 use Rattle.history.proofs.Types.{batch-record, verdict, row}
 use Rattle.history.proofs.note.Symbol as g
 use Rattle.history.proofs.note.Met as g-met
@@ -24,8 +22,8 @@ use Rattle.vessel_ring.proofs.vessel_history_note.Code as code
 pub vessel-history-note-spec : {M : Type 1} → statement M
 unfolding code.routine
 vessel-history-note-spec 𝓤 𝓛 𝓜 𝓡 =
-    hands-on-also (batch-record ∷ []) (mut_slice row ∷ []) (batch-record ∷ []) verdict u8-kind (λ a. a) verdict_number
+    hands_on (batch-record ∷ []) (mut_slice row ∷ []) (batch-record ∷ []) verdict u8-kind (λ a. a) verdict_number
     (λ t x. (History.note x.0 t.0).verdict) (λ t x. ((History.note x.0 t.0).table, tt)) 𝓛 𝓜 𝓡
-    (λ κs a. (exported.clauses 𝓛 𝓜.mem 𝓡.run κs a).ensures tt) (λ κs a ws is. fact_i 𝓤 _ (emp 𝓤) (refl, note-said a.1.0 a.0.now))
-    code.env (λ t x r. verdict_number r ≡ note_said x.0 t.0) name passed g.name g.routine code.calls-history::note (g-met.met 𝓤 𝓛 𝓜 𝓡)
+    (λ κs a. (exported.clauses 𝓛 𝓜.mem 𝓡.run κs a).ensures tt) (λ κs a ws is. fact_i 𝓤 _ (emp 𝓤) (refl, refl))
+    code.env name passed (called g.name g.routine code.calls-history::note (g-met.met 𝓤 𝓛 𝓜 𝓡))
     (told (called k.name k.routine code.calls-refusal::Verdict::number (k-met.met 𝓤 𝓛 𝓜 𝓡))) (code.unfolded 𝓤 𝓛.H 𝓜 𝓡)

@@ -8,12 +8,10 @@ use native.Mathlib.Omega.{arith}
 use lib.ListN.{length, take, length-append, length-take}
 use borrow.Author.Rules.{rules}
 use Rattle.report.specs.Line.{line_room}
-use Rattle.network.specs.Sound.{next_count}
 use Rattle.network.proofs.Ground.Splits.{by-test}
 use Rattle.runner.specs.declared.Session.{Session}
-use Rattle.runner.specs.Session.{lines}
 use Rattle.runner.specs.Listing.{to_come, listing_of}
-use Rattle.runner.proofs.Counts.{from-the-beginning, first-lines}
+use Rattle.runner.proofs.Counts.{from-the-beginning}
 use Rattle.runner.proofs.Lines.{nothing-after}
 use Rattle.vessel_ring.proofs.vessel_ring_list.Statement.{statement}
 use Rattle.vessel_ring.proofs.vessel_ring_list.Tie as tie
@@ -42,8 +40,6 @@ returns c =
     let full = none_left _ _ _ _ ran.full in
     record {
       within = ran.within;
-      count = ran.count;
-      lines = ran.printed ∙ ap (lines next_count _ _) began.begin.ensures ∙ first-lines _ _;
       left = to_come _ run.run.result.session;
       text = text;
       rest = ran.rest;

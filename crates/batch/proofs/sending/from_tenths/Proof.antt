@@ -6,9 +6,10 @@ use mir.Val.{to_z, of_z, SFits}
 use mir.Facts.{to_z-of_z}
 use borrow.Author.Rules.{rules}
 use borrow.Author.Tests.{not-true, not-false}
+use Rattle.batch.specs.declared.sending.Made.TheVariants.{Temperature}
 use Rattle.batch.specs.declared.sending.Scale.TheVariants.{Tenths}
 use Rattle.batch.specs.Sending.{in_tenths, tenfold}
-use Rattle.batch.proofs.Temperatures.{made-refused, tenfold-taken, tenfold-fits}
+use Rattle.batch.proofs.Temperatures.{made-refused, made-taken, tenfold-fits}
 use Rattle.batch.proofs.sending.from_tenths.Statement.{statement}
 use Rattle.batch.proofs.sending.from_tenths.Tie as tie
 
@@ -35,10 +36,9 @@ mul-hundredths c = rw (held c.before) (fits c)
 
 returns-2 : tie.Need-returns-2
 returns-2 c =
-    let passed = c.before in
-    let asked = passed.before in
-    rw (held asked, to_z-of_z {w = w16} {z = tenfold (x asked)} (fits passed)) at c.from-hundredths.ensures
-    ∙ tenfold-taken (x asked) (sym (tested asked) ∙ not-false _ passed.if1.false)
+    rw (held c.before)
+    (ap Temperature (to_z-of_z {w = w16} {z = tenfold (x c.before)} (fits c))
+    ∙ sym (made-taken Tenths (x c.before) (sym (tested c.before) ∙ not-false _ c.if1.false)))
 
 pub from-tenths-spec : {M : Type 1} → statement M
-from-tenths-spec = tie.close (tie.spec (λ c κs. search rules) returns mul-hundredths (λ c κs. search rules) returns-2)
+from-tenths-spec = tie.close (tie.spec (λ c κs. search rules) returns mul-hundredths returns-2)

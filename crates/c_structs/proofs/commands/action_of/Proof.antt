@@ -6,4 +6,4 @@ use Rattle.c_structs.proofs.commands.action_of.Tie as tie
 
 pub action-of-spec : {M : Type 1} → statement M
 action-of-spec =
-    tie.close (tie.spec (λ c κs. search rules) (λ c κs. search rules) (λ c. c.known_by.ensures ∙ rw c.before.row-of.ensures))
+    tie.close (tie.spec (λ c κs. search rules) (λ c κs. search rules) (λ c. c.known_by_lem.ensures ∙ rw c.before.row-of.ensures))

@@ -4,7 +4,7 @@ use lib.IntN.{ℤ}
 use mir.Syntax.{w16}
 use mir.Val.{to_z, of_z}
 use mir.Facts.{to_z-of_z}
-use borrow.Author.Rules.{rules, sfits_of}
+use borrow.Author.Rules.{rules}
 use Rattle.batch.specs.declared.sending.Scale.TheVariants.{Tenths}
 use Rattle.batch.specs.Sending.{made}
 use Rattle.convert.specs.TablePass.{turned_cell}
@@ -13,22 +13,21 @@ use Rattle.convert.proofs.tables.turned_cell.Statement.{statement}
 use Rattle.convert.proofs.tables.turned_cell.Tie as tie
 
 -- what was made of the cell
-module _ (c : tie.After-to-hundredths) where
+module _ (c : tie.After-hundredths) where
   abbrev cell : ℤ
   cell = c.before.args.cell
 
   held : to_z w16 (of_z w16 cell) ≡ cell
   held = to_z-of_z {w = w16} {z = cell} c.before.ranges.cell
 
-  told : made_or c.to-hundredths.result cell ≡ turned_cell cell
-  told = ap (λ m. made_or m cell) (c.to-hundredths.ensures.0 ∙ ap (made Tenths) held) ∙ turned-is cell
+  told : made_or c.hundredths.result cell ≡ turned_cell cell
+  told = ap (λ m. made_or m cell) (c.hundredths.ensures ∙ ap (made Tenths) held) ∙ turned-is cell
 
 returns : tie.Need-returns
 returns c =
-    let named = c.before.before in
+    let named = c.before in
     let asked = named.before.before in
-    to_z-of_z (sfits_of c.number.type-inv)
-    ∙ c.number.ensures
+    to_z-of_z {w = w16} {z = named.temperature.given.0.0} (record { sfits = c.known-told.given.0.1 })
     ∙ sym (ap (λ m. made_or m (cell asked)) named.temperature.given.1) ∙ told asked
 
 returns-2 : tie.Need-returns-2
@@ -37,6 +36,4 @@ returns-2 c =
     held asked ∙ sym (ap (λ m. made_or m (cell asked)) c.enum_told.given.1) ∙ told asked
 
 pub turned-cell-spec : {M : Type 1} → statement M
-turned-cell-spec =
-    tie.close
-    (tie.spec (λ c κs. search rules) (λ c. search rules) (λ c κs. search rules) (λ c. search rules) returns returns-2)
+turned-cell-spec = tie.close (tie.spec (λ c κs. search rules) (λ c. search rules) (λ c. search rules) returns returns-2)

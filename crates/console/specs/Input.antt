@@ -1,8 +1,0 @@
--- A tape that was read into a buffer lies within it.
-use Rattle.std.specs.Prelude.{ℕ, ◌≤◌, List, length}
-use Rattle.console.specs.declared.Input.{Input}
-use Rattle.console.specs.declared.Input.TheVariants.{Tape, Failed}
-
-abbrev pub Within : Input → List ℕ → Type 0
-Within (Tape len) buffer = len ≤ length buffer
-Within Failed buffer = Unit {0}

@@ -1,0 +1,13 @@
+-- `traffic::target_of` meets its contract by its one test.
+use borrow.Author.Tests.{eq-eqb, ne_eqb}
+use Rattle.traffic.proofs.target_of.Statement.{statement}
+use Rattle.traffic.proofs.target_of.Tie as tie
+
+returns : tie.Need-returns
+returns c = rw (eq-eqb _ 1 c.if1.true)
+
+returns-2 : tie.Need-returns-2
+returns-2 c = rw (ne_eqb _ 1 c.if1.false)
+
+pub target-of-spec : {M : Type 1} → statement M
+target-of-spec = tie.close (tie.spec returns returns-2)
