@@ -78,21 +78,22 @@ def spellings():
         print(f"falls together: {new} <- {', '.join(sorted(olds))}; stands {standing[new]} times")
     if clashes:
         sys.exit(1)
-    return mapping | {name: name.replace("_", "-") for name in DASHED}
+    return mapping
 
 
 def main():
     mapping = spellings()
+    dashed = mapping | {name: name.replace("_", "-") for name in DASHED}
 
-    def respell(text):
-        return TOKEN.sub(lambda token: mapping.get(token.group(0), token.group(0)), text)
+    def respell(text, names=mapping):
+        return TOKEN.sub(lambda token: names.get(token.group(0), token.group(0)), text)
 
     def ticked(text):
         return re.sub(r"`[^`\n]+`", lambda tick: respell(tick.group(0)), text)
 
     def antt(line):
         code = code_of(line)
-        return respell(code) + ticked(line[len(code) :])
+        return respell(code, dashed) + ticked(line[len(code) :])
 
     def rattle(line):
         return ticked(line) if line.lstrip().startswith("//") else respell(line)
