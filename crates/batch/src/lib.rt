@@ -3,6 +3,8 @@
 // Each function answers what its definition in specs/ says, of every value: a record is good or is refused
 // with the first refusal that applies. What send asks besides is a verdict of its own: a record that it refuses with 30 is good. The limits
 // of document 01 are constants of the record; a name has 32 cells.
+#![tactic(auto)]
+
 pub mod sending;
 
 ghost use Rattle.std.specs.Prelude.{◌≡◌, cond, ◌≤◌};
@@ -16,12 +18,12 @@ use refusal::{Refusal, Verdict};
 
 // A batch number, a type of its own so that it is never taken for a node or a channel number. A good record's is not 0.
 #[repr(C)]
-#[derive(Drop)]
+#[derive(Clone, Copy)]
 pub struct BatchNo(pub u32);
 
 // The fields stand in an order that leaves no padding, so that a record is lent and returned to C as it is.
 #[repr(C)]
-#[derive(Drop)]
+#[derive(Clone, Copy)]
 pub struct BatchRecord {
     pub batch: BatchNo,
     pub vessel: u8,

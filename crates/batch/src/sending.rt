@@ -11,7 +11,7 @@ use crate::{BatchNo, BatchRecord, between, in_range, judge_sent};
 use refusal::{Refusal, Verdict};
 
 // The unit of a command's temperature.
-#[derive(Drop)]
+#[derive(Clone, Copy)]
 pub enum Scale {
     Tenths,
     Hundredths,
@@ -19,7 +19,7 @@ pub enum Scale {
 
 // A send's fields as its command has them: a record's, but for the temperature, which is in the command's unit. They lie as a record does.
 #[repr(C)]
-#[derive(Drop)]
+#[derive(Clone, Copy)]
 pub struct Fields {
     pub batch: BatchNo,
     pub vessel: u8,
@@ -29,14 +29,14 @@ pub struct Fields {
 }
 
 // A record's temperature made from a command's, in hundredths, or 12.
-#[derive(Drop)]
+#[derive(Clone, Copy)]
 pub enum Made {
     Temperature(i16),
     Refused(Refusal),
 }
 
 // What send makes of a command's fields: its verdict, and the record, which is blank where the verdict is a refusal.
-#[derive(Drop)]
+#[derive(Clone, Copy)]
 pub struct Sent {
     pub verdict: Verdict,
     pub record: BatchRecord,

@@ -66,7 +66,7 @@ pub fn reading_of(reading: tape::Reading) -> Reading
 }
 
 // What a command byte and its operands stand for, if anything.
-#[derive(Drop)]
+#[derive(Clone, Copy)]
 enum Wanted {
     Known(Action),
     Unknown,

@@ -1,6 +1,8 @@
 // The structs that C sees, and what stands between them and the ring: commands and questions made of plain numbers, and replies and answers
 // told in plain numbers. `commands` has the tape's commands, `tables` what the history says. A batch record, and the fields of a send, go to
 // C and come from it as they are. `vessel_ring` exports all this.
+#![tactic(auto)]
+
 pub mod commands;
 pub mod tables;
 
@@ -21,7 +23,7 @@ use numbers::{ChannelNo, NodeNo};
 
 // What a move answers. `delivered` is 1 where it delivered; elsewhere the channel and the record are zero.
 #[repr(C)]
-#[derive(Drop)]
+#[derive(Clone, Copy)]
 pub struct Delivery {
     pub refusal: u8,
     pub delivered: u8,
@@ -32,7 +34,7 @@ pub struct Delivery {
 // What the dispatcher answers: the rounds that it made, and its deliveries in order, each with its channel and its record; zeros stand
 // behind them.
 #[repr(C)]
-#[derive(Drop)]
+#[derive(Clone, Copy)]
 pub struct Rounds {
     pub rounds: u16,
     pub refusal: u8,
@@ -42,7 +44,7 @@ pub struct Rounds {
 }
 
 #[repr(C)]
-#[derive(Drop)]
+#[derive(Clone, Copy)]
 pub struct HopsLeft {
     pub refusal: u8,
     pub hops: u8,
@@ -50,7 +52,7 @@ pub struct HopsLeft {
 
 // The channels on which a node's tasks wait, channel 0 being the lowest bit, and how many they are.
 #[repr(C)]
-#[derive(Drop)]
+#[derive(Clone, Copy)]
 pub struct Waiting {
     pub set: u64,
     pub tasks: u32,
@@ -59,7 +61,7 @@ pub struct Waiting {
 
 // The figures of a batch. `held` is 1 where the table has a row of it; elsewhere the three figures are zero.
 #[repr(C)]
-#[derive(Drop)]
+#[derive(Clone, Copy)]
 pub struct BatchFigures {
     pub sum: i32,
     pub lowest: i16,
@@ -70,7 +72,7 @@ pub struct BatchFigures {
 
 // A command of the tape: its command byte, its operands of one byte, and the fields of a send; zeros where it has none.
 #[repr(C)]
-#[derive(Drop)]
+#[derive(Clone, Copy)]
 pub struct Command {
     pub code: u8,
     pub first: u8,
@@ -80,7 +82,7 @@ pub struct Command {
 
 // What stands at a place of the tape: a refusal, the end, or a command and the place after it.
 #[repr(C)]
-#[derive(Drop)]
+#[derive(Clone, Copy)]
 pub struct Reading {
     pub next: usize,
     pub refusal: u8,
@@ -90,14 +92,14 @@ pub struct Reading {
 
 // The place after the command that was written, or the refusal.
 #[repr(C)]
-#[derive(Drop)]
+#[derive(Clone, Copy)]
 pub struct Writing {
     pub next: usize,
     pub refusal: u8,
 }
 
 // All that an answer can say, in numbers; what it does not say is 0.
-#[derive(Drop)]
+#[derive(Clone, Copy)]
 struct AnswerNumbers {
     refusal: u8,
     delivered: u8,

@@ -1,5 +1,7 @@
 // Every command by one name: `perform` makes it on a ring whose cells and records are lent where they lie; the head goes by value. A command
 // that is added to the ring has one line here. `by_value` has the same, and the questions and the dispatcher, on a ring by value.
+#![tactic(auto)]
+
 pub mod by_value;
 
 ghost use Rattle.std.specs.Prelude.{◌≡◌};

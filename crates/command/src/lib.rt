@@ -1,5 +1,7 @@
 // What can be asked of a ring: a command, which may change it, and a question, which leaves it as it is. The tape reads and writes commands;
 // `perform` of `calls` makes them, and `ask` asks the questions.
+#![tactic(auto)]
+
 ghost use Rattle.std.specs.Prelude.{◌≡◌};
 ghost use Rattle.command.specs.declared.Action.TheVariants.{AddNode, AddChannel, Start, Receive, Send, Enter, Move, Withdraw};
 ghost use Rattle.command.specs.declared.Question.TheVariants as question;
@@ -10,7 +12,7 @@ use numbers::{ChannelNo, NodeNo};
 
 // What a command does, with its operands of one byte, each of any value. A send keeps the unit of its temperature, by which it is one
 // command of the tape or another.
-#[derive(Drop)]
+#[derive(Clone, Copy)]
 pub enum Action {
     // How many slots.
     AddNode(u8),
@@ -26,13 +28,13 @@ pub enum Action {
 
 // A command. Only a send has fields, as it gives them; those beside any other action say nothing. (They have a name of 32 bytes, which no
 // enum can hold, so they stand beside the action.)
-#[derive(Drop)]
+#[derive(Clone, Copy)]
 pub struct Command {
     pub action: Action,
     pub fields: Fields,
 }
 
-#[derive(Drop)]
+#[derive(Clone, Copy)]
 pub enum Question {
     HopsLeft(ChannelNo),
     WaitingSet(NodeNo),

@@ -14,7 +14,7 @@ use history::{Row, Search, sound};
 use refusal::{Refusal, Verdict};
 
 // What the pass over the table keeps.
-#[derive(Drop)]
+#[derive(Clone, Copy)]
 struct Pass {
     // Whether every cell so far is a temperature in tenths.
     tenths: bool,

@@ -4,6 +4,8 @@
 // The head of the ring goes by value, its cells and records are lent, as in the single calls. The ring is tested once, when the call opens;
 // the entries and moves keep it sound, so `enter_at` and `move_at` are asked at every node without another test. The deliveries are kept, in
 // order, in two lent arrays: a byte for the channel and the bytes of the record. There is a place for each channel, and that is enough.
+#![tactic(auto)]
+
 ghost use Rattle.std.specs.Prelude.{◌≡◌, [], ◌∷◌, ◌+◌, ◌≤◌, ◌<◌, length};
 ghost use Rattle.network.specs.Answers.{delivered_in};
 ghost use Rattle.network.specs.Dispatch.{listed};
@@ -22,14 +24,14 @@ use traffic::{enter_at, move_at};
 use updates::opening::{Subject, open};
 
 // The head of the ring between two tries, and how many deliveries there were.
-#[derive(Drop)]
+#[derive(Clone, Copy)]
 struct Progress {
     head: Head,
     count: u8,
 }
 
 // The head of the ring after a call of the dispatcher, its answer, the rounds that it made and how many deliveries there were.
-#[derive(Drop)]
+#[derive(Clone, Copy)]
 struct HeadRun {
     head: Head,
     answer: Answer,

@@ -2,6 +2,8 @@
 // oldest first. A record is noted, a batch is closed, and the figures of a batch are asked for. Every call goes over the table once, judges
 // all of it and finds its row; at most one row is rewritten, and a refusal leaves the table as it was.
 // The three calls on the lent table are the last functions here; all they do is by value in the functions before them.
+#![tactic(auto)]
+
 ghost use Rattle.std.specs.Prelude.{◌≡◌, cond, ◌&&◌, ◌+◌, ◌-◌, ◌≤◌, ◌<◌, [], ◌∷◌, ◌++◌, pos, eqb};
 ghost use Rattle.std.proofs.Math.ListN as ListN;
 ghost use Rattle.batch.specs.Good.{in_range};
@@ -18,7 +20,7 @@ pub const ROWS: usize = 128;
 
 // The readings of a batch. Batch number 0 is an empty row's, which is all zero. The count has 32 bits, so that a row has no padding.
 #[repr(C)]
-#[derive(Drop)]
+#[derive(Clone, Copy)]
 pub struct Row {
     pub batch: BatchNo,
     pub count: u32,
@@ -26,7 +28,7 @@ pub struct Row {
     pub readings: [i16; Row::READINGS],
 }
 
-#[derive(Drop)]
+#[derive(Clone, Copy)]
 pub struct Summary {
     pub lowest: i16,
     pub highest: i16,
@@ -34,7 +36,7 @@ pub struct Summary {
 }
 
 // The figures of a batch; none where it has no row.
-#[derive(Drop)]
+#[derive(Clone, Copy)]
 pub enum Figures {
     None,
     Of(Summary),
@@ -42,7 +44,7 @@ pub enum Figures {
 }
 
 // What one pass over the table keeps.
-#[derive(Drop)]
+#[derive(Clone, Copy)]
 pub struct Search {
     // The batch that is looked for, and its row: the empty one where it was not met.
     wanted: BatchNo,
@@ -54,7 +56,7 @@ pub struct Search {
 }
 
 // The row that a call rewrites, what it becomes, and the answer. A row that the table does not have is not written.
-#[derive(Drop)]
+#[derive(Clone, Copy)]
 struct Decision {
     at: usize,
     row: Row,

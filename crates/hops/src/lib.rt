@@ -1,5 +1,7 @@
 // How many hops a message makes from one node of the ring to another. Their meaning is the rule of the fitters' sheet, by
 // remainders (specs/Hops.antt); here they are worked out by a formula. Any number of nodes that a byte holds. Assumes nothing.
+#![tactic(auto)]
+
 ghost use Rattle.std.specs.Prelude.{◌≡◌};
 ghost use Rattle.hops.specs.Hops.{hops_between};
 

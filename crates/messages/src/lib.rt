@@ -1,5 +1,7 @@
 // Two parts of the test for a sound ring, for the crate `soundness`. Cells that hold nothing are zero (`blank`). In the rows each message
 // stands once, and where it may, and exactly the channels that have one on the ring have one there (`messages_fit`).
+#![tactic(auto)]
+
 pub mod blank;
 mod rows;
 

@@ -4,6 +4,8 @@
 // Every field of the ring is an integer or an array of bytes, and every byte of a ring is part of a field. So every pattern of bytes that
 // is lent as a ring is a value, which the test for a sound ring judges; and a ring can be lent to C, compared and stored as memory. What
 // is large is an array of bytes, which a call is lent where it lies; what is small, the head, goes by value.
+#![tactic(auto)]
+
 ghost use Rattle.std.specs.Prelude.{◌≡◌};
 ghost use Rattle.network.specs.Layout.{fresh_ring};
 ghost use Rattle.network.specs.Sound.{next_count};
@@ -36,7 +38,7 @@ pub type Records = [u8; RECORDS];
 
 // A ring but for its cells and its records.
 #[repr(C)]
-#[derive(Drop)]
+#[derive(Clone, Copy)]
 pub struct Head {
     // How many records were delivered; the count stops at the largest number.
     pub deliveries: u32,
@@ -63,7 +65,7 @@ pub struct Head {
 // Channel k's bytes of `offers` are the record offered, and those of `carried` the one that its response carries. Every cell and byte
 // that holds nothing is zero.
 #[repr(C)]
-#[derive(Drop)]
+#[derive(Clone, Copy)]
 pub struct Ring {
     pub head: Head,
     pub slots: Cells,
@@ -129,7 +131,7 @@ pub fn one_more(count: u32) -> u32
 }
 
 // What a call answers: the refusal, or what an accepted call has to say.
-#[derive(Drop)]
+#[derive(Clone, Copy)]
 pub enum Answer {
     Done,
     // A move that delivered: the channel. The record stands beside the answer.
@@ -142,21 +144,21 @@ pub enum Answer {
 }
 
 // An answer with the record delivered, which is blank where there is none.
-#[derive(Drop)]
+#[derive(Clone, Copy)]
 pub struct Reply {
     pub answer: Answer,
     pub delivered: BatchRecord,
 }
 
 // The ring after a call, and its answer.
-#[derive(Drop)]
+#[derive(Clone, Copy)]
 pub struct Step {
     pub ring: Ring,
     pub reply: Reply,
 }
 
 // The same after a call that was lent the cells and the records, which it has changed where they lie.
-#[derive(Drop)]
+#[derive(Clone, Copy)]
 pub struct HeadStep {
     pub head: Head,
     pub reply: Reply,
@@ -164,7 +166,7 @@ pub struct HeadStep {
 
 // What the dispatcher answers: `Done` or the refusal, how many rounds it made, and its deliveries in order. There are `count` of them, at
 // most one for each channel: the first was on the first of the channels with the first of the records, and zeros stand behind the last.
-#[derive(Drop)]
+#[derive(Clone, Copy)]
 pub struct Dispatched {
     pub answer: Answer,
     pub rounds: u16,
@@ -174,14 +176,14 @@ pub struct Dispatched {
 }
 
 // The ring after a call of the dispatcher, and what it answers.
-#[derive(Drop)]
+#[derive(Clone, Copy)]
 pub struct DispatchStep {
     pub ring: Ring,
     pub dispatched: Dispatched,
 }
 
 // The same after a call that was lent the cells and the records.
-#[derive(Drop)]
+#[derive(Clone, Copy)]
 pub struct HeadDispatched {
     pub head: Head,
     pub dispatched: Dispatched,

@@ -2,6 +2,8 @@
 //
 // The head of the ring goes by value, its cells and records are lent where they lie. A question opens as every call does, and that makes
 // all its refusals. The answer is read off the head and, for where a message stands, the cells of the buffers.
+#![tactic(auto)]
+
 ghost use Rattle.std.specs.Prelude.{◌≡◌, ◌≤◌, ◌<◌};
 ghost use Rattle.std.specs.Int.Count.{ones};
 ghost use Rattle.network.specs.Answers.{question_call};
@@ -18,7 +20,7 @@ use refusal::{Refusal, Verdict};
 use updates::opening::{Subject, open};
 
 // What is answered to how many tasks of a node wait: the number, or the refusal.
-#[derive(Drop)]
+#[derive(Clone, Copy)]
 pub enum Tasks {
     Waiting(u32),
     Refused(Refusal),

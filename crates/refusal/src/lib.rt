@@ -1,10 +1,12 @@
 // The refusals of the vessel ring, one list for every operation: each has a name, a number and one meaning.
 // The number is what a caller and a fitter see (docs/REFUSALS.md); an operation answers the first refusal that applies.
 // A verdict is such an answer where there is nothing more to tell.
+#![tactic(auto)]
+
 ghost use Rattle.std.specs.Prelude.{◌≡◌};
 ghost use Rattle.refusal.specs.Number.{number_of, verdict_number};
 
-#[derive(Drop)]
+#[derive(Clone, Copy)]
 pub enum Refusal {
     // The ring has already started.
     AlreadyStarted,
@@ -69,7 +71,7 @@ pub enum Refusal {
 }
 
 // What a test or a call that answers nothing more comes to: it passed, or the first refusal that applies.
-#[derive(Drop)]
+#[derive(Clone, Copy)]
 pub enum Verdict {
     Passed,
     Refused(Refusal),

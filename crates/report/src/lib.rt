@@ -1,5 +1,7 @@
 // The report of the tape program: each of its lines as bytes put into a lent buffer, the whole line where it fits and nothing
 // where it does not. A line is built in a text of its own first, so a refusal leaves the buffer as it was.
+#![tactic(auto)]
+
 ghost use Rattle.std.specs.Prelude.{◌++◌, ◌≡◌, ◌+◌, ◌≤◌, length};
 ghost use Rattle.network.specs.Answers.{number_in, delivered_in};
 ghost use Rattle.text.specs.Appends.{Appends};
@@ -17,7 +19,7 @@ pub const LINE_ROOM: usize = 160;
 const NEWLINE: u8 = 0x0A;
 
 // The place after the line that was written, or that the buffer has no room for it there.
-#[derive(Drop)]
+#[derive(Clone, Copy)]
 pub enum Put {
     Written { next: usize },
     NoRoom,

@@ -1,5 +1,7 @@
 // Runs a command tape: reads each command, calls the ring and writes the command's line of the listing into a lent buffer, as many
 // whole lines at a time as have room. A session is what is kept between two runs; it may be any value at all, so no run asks anything.
+#![tactic(auto)]
+
 ghost use Rattle.std.specs.Prelude.{◌≡◌, ◌+◌, ◌≤◌, length, get_or};
 ghost use Rattle.network.specs.declared.Ring.{Ring};
 ghost use Rattle.network.specs.Answers.{reply_of, is_refusal};
@@ -21,7 +23,7 @@ use tape::ReadAnswer;
 pub const LONGEST_TAPE: usize = 60000;
 
 // Where a run of a tape stands.
-#[derive(Drop)]
+#[derive(Clone, Copy)]
 pub struct Session {
     pub ring: Ring,
     // The place of the next command on the tape.
@@ -36,14 +38,14 @@ pub struct Session {
 }
 
 // The session after a run, and how much of the lent buffer was written.
-#[derive(Drop)]
+#[derive(Clone, Copy)]
 pub struct Progress {
     pub session: Session,
     pub written: usize,
 }
 
 // A session without its ring, which is large: this is all that a line needs and changes.
-#[derive(Drop)]
+#[derive(Clone, Copy)]
 struct Tally {
     place: usize,
     number: u32,
@@ -53,14 +55,14 @@ struct Tally {
 }
 
 // The tally after a line, and how much of the lent buffer was written.
-#[derive(Drop)]
+#[derive(Clone, Copy)]
 struct Line {
     tally: Tally,
     written: usize,
 }
 
 // Where a run stands between two lines, but for the ring's cells and records, which are lent where they lie.
-#[derive(Drop)]
+#[derive(Clone, Copy)]
 struct Turn {
     head: Head,
     line: Line,
@@ -230,7 +232,7 @@ fn last(tally: Tally, out: &mut [u8], at: usize) -> Line
 }
 
 // The only line of a tape that is too long, and the tally after it.
-fn too-long(tally: Tally, out: &mut [u8], at: usize) -> Line
+fn too_long(tally: Tally, out: &mut [u8], at: usize) -> Line
     requires { at + line_room ≤ length out.old }
     ensures { LinePut too_long (closed_tally tally) at out.old out.new result }
 {
@@ -259,7 +261,7 @@ fn next_line(
     let tally = turn.line.tally;
     let at = turn.line.written;
     if LONGEST_TAPE < tape.len() {
-        let line = too-long(tally, out, at);
+        let line = too_long(tally, out, at);
         return Turn { head, line };
     }
     let reading = tape::read(tape, tally.place);

@@ -13,6 +13,8 @@
 //
 // `perform`, `ask`, `dispatch` and `is_sound` lend the ring's own fields to the functions on a ring in parts, and no array is copied. The
 // others make a command or a question and hand the ring on. Each contract says the whole ring afterwards and the reply.
+#![tactic(auto)]
+
 pub mod dispatcher;
 
 ghost use Rattle.std.specs.Prelude.{◌≡◌};

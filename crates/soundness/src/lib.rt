@@ -4,6 +4,8 @@
 //
 // Every call pays for this test. So its loops go over all their cells and leave only at the end, counting the wrong ones: the compiler
 // then tests 16 cells at once. Only the pass over the messages stops where it meets a wrong one.
+#![tactic(auto)]
+
 mod channels;
 mod nodes;
 mod records;

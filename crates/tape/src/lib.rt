@@ -1,6 +1,8 @@
 // The command tape: a reader and a writer of commands (`command`). A tape is a slice of bytes; a command stands at a place of it, its
 // command byte first, then its operands, low byte first. Both answer what the definitions in specs/ say of every place,
 // every byte and every operand value; what was written reads back, and what was read writes back.
+#![tactic(auto)]
+
 ghost use Rattle.std.specs.Prelude.{◌≡◌, ◌≤◌, length, drop};
 ghost use Rattle.wire.specs.Bytes.{number_at, overwritten};
 ghost use Rattle.wire.specs.Record.{fields_in};
@@ -18,7 +20,7 @@ use refusal::Refusal;
 use wire::fields;
 
 // What stands at a place of the tape. `next` is the place after the command.
-#[derive(Drop)]
+#[derive(Clone, Copy)]
 pub enum ReadAnswer {
     Read { next: usize },
     End,
@@ -26,21 +28,21 @@ pub enum ReadAnswer {
 }
 
 // The answer with the command that was read, or the blank one.
-#[derive(Drop)]
+#[derive(Clone, Copy)]
 pub struct Reading {
     pub answer: ReadAnswer,
     pub command: Command,
 }
 
 // What became of a command to be written. `next` is the place after it.
-#[derive(Drop)]
+#[derive(Clone, Copy)]
 pub enum Writing {
     Written { next: usize },
     Refused(Refusal),
 }
 
 // The shapes of a command: what follows its command byte.
-#[derive(Drop)]
+#[derive(Clone, Copy)]
 pub enum Shape {
     // No command has this command byte.
     Unknown,
@@ -51,14 +53,14 @@ pub enum Shape {
 }
 
 // A command byte's row of the table: the shape of its command, and the action that its operands make.
-#[derive(Drop)]
+#[derive(Clone, Copy)]
 pub struct Row {
     pub shape: Shape,
     pub action: Action,
 }
 
 // The command byte of an action, and its operands of one byte, 0 where it has none.
-#[derive(Drop)]
+#[derive(Clone, Copy)]
 pub struct Parts {
     pub code: u8,
     pub first: u8,

@@ -2,6 +2,8 @@
 //
 // Each takes the head of a ring by value, with the cells and the records lent where they lie, and answers the head after the call and the
 // reply. It opens as every call does; then come its own refusals in the order of document 01, and a refusal leaves the ring as it was.
+#![tactic(auto)]
+
 ghost use Rattle.std.specs.Prelude.{◌≡◌};
 ghost use Rattle.batch.specs.Sending.{record_from};
 ghost use Rattle.network.specs.Layout.{ring_in, step_in, step_ring};

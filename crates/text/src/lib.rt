@@ -1,5 +1,7 @@
 // A line while it is built: bytes put one after another into a lent text. Every function takes the place where it begins and
 // returns the place where it ends; it asks for the room that it needs, so none has to refuse.
+#![tactic(auto)]
+
 ghost use Rattle.std.specs.Prelude.{[], ◌∷◌, ◌≡◌, ◌+◌, ◌<◌, ◌≤◌, min, nat_abs, length, take};
 ghost use Rattle.text.specs.Digits.{decimal, hex_digit, hex2, signed};
 ghost use Rattle.text.specs.Fields.{space, field, name_field, laid};

@@ -1,6 +1,8 @@
 // The changes that the ring calls are made of, and their answers: for the crates of the calls alone. Buffers and lines are rows of cells:
 // a cell is put after the used ones, or one is cut out and those after it move up. Cells and records are changed where they lie; the
 // head goes by value. What a change asks, every call has tested before it.
+#![tactic(auto)]
+
 pub mod answer;
 pub mod opening;
 

@@ -10,7 +10,7 @@ use refusal::{Refusal, Verdict};
 use soundness;
 
 // What a call is about.
-#[derive(Drop)]
+#[derive(Clone, Copy)]
 pub enum Subject {
     // The plan of a ring that has not started.
     Plan,

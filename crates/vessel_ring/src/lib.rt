@@ -8,6 +8,8 @@
 // its maker in `c_structs` and the function here, with a proof that names the three functions; where its answer has a value that no other
 // has, a field of `AnswerNumbers` of `c_structs` and of the struct that it answers; its prototype in the header, and its arm in tests/calls. One more
 // command of the tape takes nothing here: `commands` of `c_structs` reads the tape's own table.
+#![tactic(auto)]
+
 ghost use Rattle.std.specs.Prelude.{◌≡◌};
 ghost use Rattle.refusal.specs.Number.{verdict_number};
 ghost use Rattle.batch.specs.declared.sending.Scale.TheVariants.{Tenths, Hundredths};

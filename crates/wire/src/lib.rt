@@ -1,6 +1,8 @@
 // A batch record as bytes, 40 of them: the form in which a ring's memory holds one, and a tape the fields of a send, whose temperature is
 // in the command's unit. The reader answers what the bytes stand for; the writer is lent the part of the buffer that begins with the
 // record, and lends its fields their parts. What was written is read and what was read is written (specs/Record.antt).
+#![tactic(auto)]
+
 pub mod fields;
 
 ghost use Rattle.std.specs.Prelude.{◌≡◌, ◌+◌, ◌≤◌, length, drop};
