@@ -121,6 +121,7 @@ impl Ring {
 }
 
 // A count after one more: it stops at the largest number.
+#[tactic(auto, unfolding(crate::specs::Sound::next_count))]
 pub fn one_more(count: u32) -> u32
     ensures { result ≡ next_count count }
 {

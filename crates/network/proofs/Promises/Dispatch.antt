@@ -112,6 +112,7 @@ module _ (L : Limits) where
 
   -- where none is accepted, each was refused on the ring as it stood
   all-refused : {a : Call} (calls : List Call) (σ : Network) → accepted_in calls σ ≡ 0 → Among a calls → is_accepted (call L a σ) ≡ false
+  all-refused {a} [] σ none_in m = elim m [ ]
   all-refused (b ∷ calls) σ none_in first = (refused-stays σ (call L b σ) (omega arith)).0
   all-refused {a} (b ∷ calls) σ none_in (later m) =
       let here = refused-stays σ (call L b σ) (omega arith) in
