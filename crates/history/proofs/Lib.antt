@@ -6,5 +6,4 @@ pub mod Figuring
 pub mod Rewritten
 pub mod Passing
 pub mod Running
-pub mod Types
 pub mod Worked
