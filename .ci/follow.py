@@ -12,9 +12,9 @@ ROOT = pathlib.Path(__file__).resolve().parent.parent
 TAIL = 40  # lines of notes that are shown of what failed
 
 COUNT = re.compile(r"\d+ passed, \d+ failed$")
-CRATE = re.compile(r"rt: (\w+) ((?:proved|NOT PROVED)\b(?!, and its run).*)$")
-EDIT = re.compile(r"rt: must-fail (\w+)/(\S+): (.*)$")
-REFUSED = re.compile(r"refused, as it must be \((?:first at (\S+); )?(\d+ s)\)$")
+CRATE = re.compile(r"rt: (\w+) ((?:proved|NOT PROVED|is kept)\b(?!, and its run).*)$")
+EDIT = re.compile(r"rt: must-fail (\w+)/(\S+?)(?:\.edit)?: (.*)$")
+REFUSED = re.compile(r"refused, as it must be(?:: (?:note: )?(?:\./)?(\S+?:\d+:\d+): .*)?$")
 
 
 def listed_crates():
@@ -59,7 +59,7 @@ class Follower:
             refused = REFUSED.match(end)
             if refused and refused[1]:
                 self.places[name, refused[1]].append(label)
-            how = f"refused ({refused[2]})" if refused else end
+            how = "refused" if refused else end
             say(f"edit {self.edits_ended} of {self.edits}: {name}/{label} {how}")
             if not refused:
                 notes = self.failed(line)

@@ -1,5 +1,5 @@
-/* The vessel ring for firmware: C11 and C++, x86-64 System V. Link libvessel_ring.a, which `rt staticlib vessel_ring` writes to
-   target/staticlib. Every function is proved to do what its contract in crates/vessel_ring/src/lib.rt says, for every value of every
+/* The vessel ring for firmware: C11 and C++, x86-64 System V. Link libvessel_ring.a, which `tools/library` writes to
+   crates/vessel_ring/out. Every function is proved to do what its contract in crates/vessel_ring/src/lib.rt says, for every value of every
    argument. This header is written by hand; the assertions at its end hold its types to the sizes and places that the library has.
 
    How it is used. Keep one struct vessel_ring and lend it to the calls:
