@@ -1,7 +1,7 @@
 -- Laws of a good record and of the first refusal that applies. Callers cite these and not the text of the definitions, so that
 -- a limit or a clause can change behind its name.
 use mathlib.Core.Path.{◌≡◌, refl, sym, ap, ◌∙◌}
-use mathlib.Core.Bool.{Bool, true, false, not, ◌&&◌, false≢true, and-eq-true_iff}
+use mathlib.Core.Bool.{true, false, not, ◌&&◌, false≢true, and-eq-true_iff}
 use Prim.Native.Nat.{ℕ, ◌≤◌, ◌<◌, ◌^◌}
 use native.Mathlib.Omega.{arith}
 use lib.Dec.{leb, ltb, lit≤}

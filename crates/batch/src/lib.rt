@@ -50,6 +50,7 @@ impl BatchRecord {
     pub const BLANK: u8 = 0x20;
 
     // What a cell that holds no record has: every field zero.
+    #[tactic(auto, unfolding(crate::specs::Blank::no_record))]
     pub fn none() -> BatchRecord
         ensures { result ≡ no_record }
     {
@@ -136,6 +137,7 @@ fn name_cells_good(length: u8, name: &[u8]) -> bool
 }
 
 // The first refusal that applies to a record of these fields, in the order of document 01. The vessel may be any.
+#[tactic(auto, unfolding(crate::specs::Good::verdict_of, crate::specs::Good::batch_good, crate::specs::Good::temp_good, crate::specs::Good::name_length_good, crate::specs::Good::name_good, crate::specs::Good::widths_good))]
 fn judge_fields(number: u32, vessel: u8, temperature: i16, name_length: u8, name: &[u8]) -> Verdict
     requires { ListN.length name.now ≡ name_limit }
     ensures { result ≡ verdict_of (record_of number vessel temperature name_length name.now) }
@@ -174,6 +176,7 @@ pub fn judge(record: BatchRecord) -> Verdict
 }
 
 // Whether a name of so many characters begins or ends with a blank. An empty name does neither.
+#[tactic(auto, unfolding(crate::specs::Good::blank_at_end))]
 fn blank_at_end(length: u8, name: &[u8]) -> bool
     requires name_value { ListN.length name.now ≡ name_limit }
     requires length_le_name_limit { length ≤ name_limit }
@@ -187,6 +190,7 @@ fn blank_at_end(length: u8, name: &[u8]) -> bool
 }
 
 // The first refusal that applies to a record in a send: what is asked of every record, and then of the ends of its name.
+#[tactic(auto, unfolding(crate::specs::Good::send_verdict, crate::specs::Good::blank_ends))]
 pub fn judge_sent(record: BatchRecord) -> Verdict
     ensures value { result ≡ send_verdict «record» }
     ensures result_value { verdict_number result ≡ verdict_number (send_verdict «record») }
@@ -215,6 +219,7 @@ pub fn fields_good(number: u32, vessel: u8, temperature: i16, name_length: u8, n
 }
 
 // Whether two records are of one batch: by their batch numbers alone, whatever their names.
+#[tactic(auto, unfolding(crate::specs::Same::same_batch))]
 pub fn same_batch(a: BatchRecord, b: BatchRecord) -> bool
     ensures { result ≡ same_batch a b }
 {

@@ -49,6 +49,7 @@ impl Fields {
     pub const HOTTEST_TENTHS: i16 = 1200;
 
     // What stands beside a command that has no fields.
+    #[tactic(auto, unfolding(crate::specs::Sending::no_fields))]
     pub fn none() -> Fields
         ensures { result ≡ no_fields }
     {
@@ -64,6 +65,7 @@ pub fn in_tenths(value: i16) -> bool
 }
 
 // Tenths are tested as tenths: ten times as many of them, from 3,277 on, do not fit 16 bits.
+#[tactic(auto, unfolding(crate::specs::Sending::made))]
 fn from_tenths(value: i16) -> Made
     ensures { result ≡ made Tenths value }
 {
@@ -75,6 +77,7 @@ fn from_tenths(value: i16) -> Made
 }
 
 // A record's temperature from a command's.
+#[tactic(auto, unfolding(crate::specs::Sending::made))]
 pub fn hundredths(scale: Scale, value: i16) -> Made
     ensures { result ≡ made scale value }
 {
