@@ -2,9 +2,8 @@
 -- statement holds of every place passed (`Judging`), or what the places passed add up to (`Summing`). For each: the invariant, that it
 -- holds at the start, that a turn keeps it, and what it says at the end.
 use Prim.Native.Nat.{ℕ, ◌+◌, ◌*◌, ◌≤◌, ◌<◌}
-use mathlib.Core.Path.{◌≡◌, refl}
-use mathlib.Core.Bool.{Bool, true, false, not}
-use mathlib.Core.Logic.{◌⊎◌, ⊎_elim}
+use mathlib.Core.Path.{◌≡◌, refl, sym}
+use mathlib.Core.Bool.{Bool, true, false, false≢true}
 use native.Mathlib.Nat.{not-suc-le-zero}
 use native.Mathlib.Numerals.{add-one}
 use native.Mathlib.Omega.{arith}
@@ -13,7 +12,6 @@ use borrow.Author.Tests.{eqb-true, eq-eqb}
 use Rattle.network.specs.Counting.{sum}
 use Rattle.network.proofs.Ground.Splits.{by-same}
 use Rattle.messages.specs.Decides.{Decides}
-use Rattle.messages.proofs.Decides.{refused, granted}
 
 -- P judged at each place below n
 
@@ -52,22 +50,25 @@ module _ {P : ℕ → Type 0} {n : ℕ} where
   pub counting-start : Counting P n 0 0
   counting-start = record { judged = judging-start; few = omega arith }
 
-  -- the call answered no, and one more is wrong, or yes
-  pub counting-turn : {wrong after i : ℕ} {r : Bool} {No Yes : Type 0} → Counting P n wrong i → i < n → Decides r (P i) → No ⊎ Yes →
-      (No → (not r ≡ true) × (after ≡ wrong + 1)) → (Yes → (not r ≡ false) × (after ≡ wrong)) → Counting P n after (i + 1)
-  counting-turn before inside call came on-no on-yes =
-      ⊎_elim
-      (λ w. rw (on-no w).1
+  -- the call answered no, and one more is wrong
+  pub counting-wrong : {wrong after i : ℕ} {r : Bool} → Counting P n wrong i → i < n → Decides r (P i) → r ≡ false →
+      after ≡ wrong + 1 → Counting P n after (i + 1)
+  counting-wrong before inside call wrong e =
+      rw e
       (record {
-        judged = judging-turn before.judged inside (λ e. absurd (omega arith)) (λ e p. absurd (refused call (on-no w).0 p));
+        judged = judging-turn before.judged inside (λ z. absurd (omega arith)) (λ z p. absurd (false≢true (rw (call.passes p) at (sym wrong))));
         few = omega (arith, before.few);
-      }))
-      (λ w. rw (on-yes w).1
+      })
+
+  -- or yes
+  pub counting-right : {wrong after i : ℕ} {r : Bool} → Counting P n wrong i → i < n → Decides r (P i) → r ≡ true →
+      after ≡ wrong → Counting P n after (i + 1)
+  counting-right before inside call good e =
+      rw e
       (record {
-        judged = judging-turn before.judged inside (λ e. (e, granted call (on-yes w).0)) (λ e p. e);
+        judged = judging-turn before.judged inside (λ z. (z, call.holds good)) (λ z p. z);
         few = omega (arith, before.few);
-      }))
-      came
+      })
 
   pub counting-end : {wrong i : ℕ} → Counting P n wrong i → n ≤ i → Decides (eqb wrong 0) ((j : ℕ) → j < n → P j)
   counting-end whole past = judging-end whole.judged past

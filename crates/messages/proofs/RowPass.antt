@@ -86,6 +86,10 @@ says-stopped e = record { passed = λ h. both_ways h refl; stopped = λ h. e }
 
 -- a row
 
+-- 1 for a cell that is not zero, else 0
+abbrev pub used_at : List ℕ → ℕ → ℕ
+used_at cells i = min 1 (get_or cells i 0)
+
 pub in-use-most : (cells : List ℕ) → cells_in_use cells ≤ row_length
 unfolding cells_in_use
 in-use-most cells =

@@ -5,12 +5,14 @@ use mathlib.Core.List.{List, []}
 use mathlib.Core.Logic.{◌↔◌}
 use native.Mathlib.Nat.{mul-le-mul_left, div-add-mod, mod-lt}
 use native.Mathlib.Omega.{arith}
+use lib.Bits.{bit_or}
 use lib.ListN.{length, get_or, take, drop, length-take, get_or-eq_default}
 use lib.Seq.{get_or-take, get_or-drop}
 use Rattle.network.specs.Layout.{row, padded}
 use Rattle.network.proofs.Ground.Splits.{by_less}
 use Rattle.network.proofs.Memory.Rows.{padded-is, padded-none, get_d-blanks, row-end, row-length, get_d-row}
 use Rattle.messages.specs.Messages.{Blank}
+use Rattle.messages.proofs.Decides.{or-zero}
 
 -- the part of the cells that is lent as row p
 pub part-is-row : (w : ℕ) (cells : List ℕ) (p : ℕ) → take (w * p + w - w * p) (drop (w * p) cells) ≡ row w cells p
@@ -89,3 +91,24 @@ module _ (w m n : ℕ) (some : 0 < w) (cells : List ℕ) (whole : length cells �
       by_less p m (λ early. early) (λ late. absurd (omega (arith, mul-le-mul_left {m = m} {n = p} w late))) in
       ap (λ k. get_or cells k 0) (sym at) ∙ sym (get_d-row w cells p j l) ∙ padded-blank w (zeros p past last) j)
       (λ past. get_or-eq_default cells 0 (omega arith))
+
+-- four lists whose cells at a place are zero
+abbrev pub AllZero : List ℕ → List ℕ → List ℕ → List ℕ → ℕ → Type 0
+AllZero front back other_front other_back i =
+    ((get_or front i 0 ≡ 0) × (get_or back i 0 ≡ 0)) × ((get_or other_front i 0 ≡ 0) × (get_or other_back i 0 ≡ 0))
+
+-- what was joined to the cells of a place is 0 exactly when all five are
+pub four-zero : (any a b c d : ℕ) →
+    (bit_or any (bit_or (bit_or (bit_or a b) c) d) ≡ 0) ↔ ((any ≡ 0) × (((a ≡ 0) × (b ≡ 0)) × ((c ≡ 0) × (d ≡ 0))))
+four-zero any a b c d = (
+  (λ e.
+      let all = (or-zero _ _).0 e in
+      let three = (or-zero _ _).0 all.1 in
+      let two = (or-zero _ _).0 three.0 in
+      (all.0, ((or-zero _ _).0 two.0, (two.1, three.1)))),
+  (λ h. (or-zero _ _).1 (h.0, (or-zero _ _).1 ((or-zero _ _).1 ((or-zero _ _).1 h.1.0, h.1.1.0), h.1.1.1))),
+)
+
+-- beyond the end nothing is read
+pub zero-beyond : (xs : List ℕ) (n : ℕ) → length xs ≡ n → ((i : ℕ) → i < n → get_or xs i 0 ≡ 0) → Blank xs
+zero-beyond xs n e zero i = by_less i n (zero i) (λ l. get_or-eq_default xs 0 (rw e l))
