@@ -1,15 +1,16 @@
 -- Laws of `decimal`: one digit, or the digits of n / 10 and then the last one. All else, the three statements of specs/ and the number of
 -- digits, follows by induction over that.
 use Prim.Native.Nat.{ℕ, zero, suc, ◌+◌, ◌-◌, ◌*◌, ◌/◌, ◌%◌, ◌^◌, ◌≤◌, ◌<◌}
-use mathlib.Core.Path.{◌≡◌}
+use mathlib.Core.Path.{◌≡◌, refl}
+use mathlib.Core.Bool.{true, false, true≢false}
 use mathlib.Core.Logic.{◌≢◌}
 use mathlib.Core.List.{List, [], ◌∷◌, ◌++◌}
 use native.Mathlib.Omega.{arith}
 use lib.IntN.{ℤ, pos, negsuc, nat_abs}
-use lib.Signed.{mag}
+use lib.Signed.{lt_z}
 use lib.ListN.{length, get_or, length-append, get_or-append}
 use lib.Seq.{get_or_at}
-use borrow.Author.Tests.{lt-ltb, le-ltb}
+use borrow.Author.Tests.{lt-ltb, le-ltb, ltb-true}
 use Rattle.numbers.proofs.Splits.{by_less}
 use Rattle.text.specs.Digits.{digit, digits, decimal, signed, read_on, ReadsBack, OnlyDigits, NoLeadingZero}
 
@@ -87,11 +88,13 @@ no-leading-zero = (
 pub ten-digits : (n : ℕ) → n < 2 ^ 32 → length (decimal n) ≤ 10
 ten-digits n h = length-decimal 9 n (omega arith)
 
--- the digits after the sign are those of the magnitude
-pub signed_below : (z : ℤ) → z ≡ negsuc (mag z) → signed z ≡ 0x2D ∷ decimal (nat_abs z)
+-- by the sign: the digits after it are those of the magnitude
+pub signed_below : (z : ℤ) → lt_z z (pos 0) ≡ true → signed z ≡ 0x2D ∷ decimal (nat_abs z)
 unfolding signed
-signed_below z e = rw e
+signed_below (pos n) e = let h : n < 0 = ltb-true n 0 e in let no : ⊥ = omega arith in absurd no
+signed_below (negsuc n) e = refl
 
-pub signed_above : (z : ℤ) → z ≡ pos (mag z) → signed z ≡ decimal (nat_abs z)
+pub signed_above : (z : ℤ) → lt_z z (pos 0) ≡ false → signed z ≡ decimal (nat_abs z)
 unfolding signed
-signed_above z e = rw e
+signed_above (pos n) e = refl
+signed_above (negsuc n) e = absurd (true≢false e)
