@@ -1,6 +1,6 @@
 -- The call "enter" at a node of a sound started ring: each refusal by the tests that the code makes, and what an accepted entry leaves in
 -- memory.
-use Prim.Native.Nat.{ℕ, ◌*◌, ◌≤◌, ◌<◌}
+use Prim.Native.Nat.{ℕ, ◌≤◌, ◌<◌}
 use mathlib.Core.Path.{◌≡◌, sym, ap, ◌∙◌}
 use mathlib.Core.Logic.{◌≢◌}
 use native.Mathlib.Omega.{arith}
@@ -12,13 +12,13 @@ use Rattle.network.specs.Network.{Network, node_no, node}
 use Rattle.network.specs.Calls.{done, refused, accepted, enter_first}
 use Rattle.network.specs.Calls
 use Rattle.network.specs.Runs
-use Rattle.network.specs.Layout.{row_length, cell_room, view, held_outcome, call_ring}
+use Rattle.network.specs.Layout.{row_length, view, held_outcome, call_ring}
 use Rattle.network.proofs.Ground.Splits.{by-list}
 use Rattle.updates.specs.Flat.{capacity_at, used_at, waiting_at, entered}
 use Rattle.updates.specs.Known.{AtNode}
 use Rattle.updates.proofs.Openings.{sound-called}
 use Rattle.updates.proofs.FlatLaws.{entered-held}
-use Rattle.updates.proofs.Reading.{node-known, node-there, node-within, node-numbers, node-running, slots-within, empty-length}
+use Rattle.updates.proofs.Reading.{node-known, node-there, node-numbers, node-running, slots-within, empty-length}
 
 module _ {ring : Ring} {p : ℕ} (h : AtNode ring p) where
   abbrev σ : Network
@@ -30,10 +30,6 @@ module _ {ring : Ring} {p : ℕ} (h : AtNode ring p) where
 
   pub enter-empty : waiting_at ring.head p ≡ 0 → call_ring (Runs.enter (node_no p)) ring ≡ refused LineEmpty
   enter-empty e = called ∙ rw (empty-length (node σ (node_no p)).line (sym (node-numbers h).waiting ∙ e))
-
-  -- what the code asks before it reads and writes rows
-  pub row_within : row_length * p < cell_room
-  row_within = omega (arith, node-within h)
 
   module _ (some : waiting_at ring.head p ≢ 0) where
     pub enter-full : capacity_at ring.head p ≤ used_at ring.head p → call_ring (Runs.enter (node_no p)) ring ≡ refused NoFreeSlot

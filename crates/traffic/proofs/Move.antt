@@ -1,6 +1,6 @@
 -- The call "move" at a node of a sound started ring. The first cell of the buffer is a message under way on a channel of the ring; each
 -- refusal and each of the three ways it goes (taken, delivered, passed on) by the tests that the code makes.
-use Prim.Native.Nat.{ℕ, suc, ◌+◌, ◌-◌, ◌*◌, ◌≤◌, ◌<◌}
+use Prim.Native.Nat.{ℕ, suc, ◌+◌, ◌-◌, ◌≤◌, ◌<◌}
 use mathlib.Core.Path.{◌≡◌, refl, sym, ap, subst, ◌∙◌}
 use mathlib.Core.Logic.{◌≢◌}
 use mathlib.Core.Bool.{true, false}
@@ -25,7 +25,7 @@ use Rattle.network.specs.Network.{Network, NodeState, ChannelState, Phase, resti
 use Rattle.network.specs.Calls.{done, delivered, refused, accepted, Arrival, taken, passing, arrived, arrival_of, arrival, respond, take_request, deliver, leave, pass, hand_over, move_first}
 use Rattle.network.specs.Calls
 use Rattle.network.specs.Runs
-use Rattle.network.specs.Layout.{ring_limits, node_room, channel_room, row_length, cell_room, row, padded, cells_of, phase_code, offered_flag, offer_bytes, carried_bytes, record_at, view, hold, held_outcome, call_ring, with_nodes, with_deliveries, step_in}
+use Rattle.network.specs.Layout.{ring_limits, node_room, channel_room, row_length, row, padded, cells_of, phase_code, offered_flag, offer_bytes, carried_bytes, record_at, view, hold, held_outcome, call_ring, with_nodes, with_deliveries, step_in}
 use Rattle.network.specs.Sound.{next_count}
 use Rattle.network.proofs.Ground.Splits.{by-list, by-phase, by-same, both_ways}
 use Rattle.network.proofs.Ground.Counting.{count_same, weigh-cons}
@@ -40,7 +40,7 @@ use Rattle.updates.specs.Known.{CanRespond, Responded, AtNode, Leaves, Takes, De
 use Rattle.updates.proofs.Openings.{sound-called, accepts, accepted-fits, marked, unmarked}
 use Rattle.updates.proofs.FlatLaws.{first_cell, left-held, passed-held, phased-held, unoffered-held, handed-out-held}
 use Rattle.updates.proofs.Messages.{Answerable, can-respond, responded-held, response-made}
-use Rattle.updates.proofs.Reading.{node-known, node-there, node-within, node-numbers, node-running, empty-length, asking-code, none-flag}
+use Rattle.updates.proofs.Reading.{node-known, node-there, node-numbers, node-running, empty-length, asking-code, none-flag}
 
 module _ {ring : Ring} {p : ℕ} (h : AtNode ring p) where
   called : Calls.move (node_no p) (view ring) ≡ move_first (node_no p) (node (view ring) (node_no p)).buffer (view ring)
@@ -53,10 +53,6 @@ module _ {ring : Ring} {p : ℕ} (h : AtNode ring p) where
   pub move-empty : used_at ring.head p ≡ 0 → call_ring (Runs.move (node_no p)) ring ≡ refused BufferEmpty
   move-empty e =
       in_memory ∙ ap held_outcome called ∙ rw (empty-length (node (view ring) (node_no p)).buffer (sym (node-numbers h).used ∙ e))
-
-  -- the first cell of the buffer is there
-  pub first-within : row_length * p < cell_room
-  first-within = omega (arith, node-within h)
 
 -- the first of the buffer of p: its channel k, and those behind it
 record FirstOf (σ : Network) (p cell k : ℕ) : Type 0 where
@@ -111,18 +107,12 @@ module _ {ring : Ring} {p cell : ℕ} (h : Leaves ring p cell) where
   abbrev ks : List ChannelNo
   ks = first.ks
 
-  -- what the code asks: it reads channel k, and takes the first out of the buffer
+  -- what the code asks: it reads channel k
   pub cell-used : 0 < cell
   cell-used = omega (arith, first.cell-is)
 
   pub cell-within : k < channel_room
   cell-within = omega (arith, first.known, known.fits.channels-fit)
-
-  pub leave_room : (p < node_room) × (0 < used_at ring.head p)
-  leave_room = (node-within at, omega (arith, h.some))
-
-  pub slots-whole : length ring.slots ≡ cell_room
-  slots-whole = known.holds.slots-whole
 
   -- the channel's numbers
   channel-is : HeldChannel ring σ k
