@@ -146,16 +146,16 @@ module _ (a : Call) (ring : Ring) where
       s ≡ refused_step ring.head r → step_in s ring.slots ring.lines ring.offers ring.carried ≡ step_of ring (call_ring a ring)
   turns-away same told e = refuses ring (opening-refused (sym same ∙ told)) e
 
--- where an opening is not refused all its tests passed
+-- where an opening passed all its tests passed
 
 test-open : (b : Bool) (x : Refusal) (rest : Verdict) → unless b (Refused x) rest ≡ Passed → (b ≡ true) × (rest ≡ Passed)
 test-open true x rest e = (refl, e)
 test-open false x rest e = let z : ◌≡◌ {A = ℕ} 0 1 = cc in absurd (omega arith)
 
 module _ (ring : Ring) where
-  sound-open : (subject : Subject) {o : Verdict} → o ≡ opening_of ring subject → OneOf (0 ∷ []) (tag_of the_type o) →
+  sound-open : (subject : Subject) {o : Verdict} → o ≡ opening_of ring subject → o ≡ Passed →
       (sound_ring ring ≡ true) × (sound_opening ring subject ≡ Passed)
-  sound-open subject {o} same told = test-open (sound_ring ring) UnsoundRing (sound_opening ring subject) (sym same ∙ no-refusal o told)
+  sound-open subject same told = test-open (sound_ring ring) UnsoundRing (sound_opening ring subject) (sym same ∙ told)
 
   going-open : (count k : ℕ) (none : Refusal) → after_start ring.head.started count k none ≡ Passed →
       (ring.head.started ≢ 0) × (k < count)
@@ -164,26 +164,40 @@ module _ (ring : Ring) where
       let there = test-open (ltb k count) none Passed going.1 in
       (λ still. both_ways going.0 (rw still), ltb-true k count there.0)
 
-  pub plan-open : {o : Verdict} → o ≡ opening_of ring Plan → OneOf (0 ∷ []) (tag_of the_type o) → Planned ring
-  plan-open same told =
+  pub plan-passed : {o : Verdict} → o ≡ opening_of ring Plan → o ≡ Passed → Planned ring
+  plan-passed same told =
       let sound = sound-open Plan same told in
       let waits = test-open (not (begun ring.head.started)) AlreadyStarted Passed sound.1 in
       record { ok = sound.0; still = by-same ring.head.started 0 (λ e. e) (λ d. both_ways waits.0 (rw (ne_eqb _ 0 d))) }
 
-  pub channel-open : {k : ChannelNo} {o : Verdict} → o ≡ opening_of ring (Channel k) → OneOf (0 ∷ []) (tag_of the_type o) → AtChannel ring k.0
-  channel-open {k} same told =
+  pub channel-passed : {k : ChannelNo} {o : Verdict} → o ≡ opening_of ring (Channel k) → o ≡ Passed → AtChannel ring k.0
+  channel-passed {k} same told =
       let sound = sound-open (Channel k) same told in
       let rest = going-open ring.head.channel_count k.0 NoSuchChannel sound.1 in
       record { ok = sound.0; going = rest.0; there = rest.1 }
 
-  pub node-open : {p : NodeNo} {o : Verdict} → o ≡ opening_of ring (Node p) → OneOf (0 ∷ []) (tag_of the_type o) → AtNode ring p.0
-  node-open {p} same told =
+  pub node-passed : {p : NodeNo} {o : Verdict} → o ≡ opening_of ring (Node p) → o ≡ Passed → AtNode ring p.0
+  node-passed {p} same told =
       let sound = sound-open (Node p) same told in
       let rest = going-open ring.head.node_count p.0 NoSuchNode sound.1 in
       record { ok = sound.0; going = rest.0; there = rest.1 }
 
-  pub tasks-open : {p : NodeNo} {o : Verdict} → o ≡ opening_of ring (Tasks p) → OneOf (0 ∷ []) (tag_of the_type o) → AskedAt ring p.0
-  tasks-open {p} same told =
+  pub tasks-passed : {p : NodeNo} {o : Verdict} → o ≡ opening_of ring (Tasks p) → o ≡ Passed → AskedAt ring p.0
+  tasks-passed {p} same told =
       let sound = sound-open (Tasks p) same told in
       let there = test-open (ltb p.0 ring.head.node_count) NoSuchNode Passed sound.1 in
       record { ok = sound.0; there = ltb-true _ _ there.0 }
+
+  -- the same where an arm of a `match` is of no refusal
+
+  pub plan-open : {o : Verdict} → o ≡ opening_of ring Plan → OneOf (0 ∷ []) (tag_of the_type o) → Planned ring
+  plan-open {o} same told = plan-passed same (no-refusal o told)
+
+  pub channel-open : {k : ChannelNo} {o : Verdict} → o ≡ opening_of ring (Channel k) → OneOf (0 ∷ []) (tag_of the_type o) → AtChannel ring k.0
+  channel-open {k} {o} same told = channel-passed {k = k} same (no-refusal o told)
+
+  pub node-open : {p : NodeNo} {o : Verdict} → o ≡ opening_of ring (Node p) → OneOf (0 ∷ []) (tag_of the_type o) → AtNode ring p.0
+  node-open {p} {o} same told = node-passed {p = p} same (no-refusal o told)
+
+  pub tasks-open : {p : NodeNo} {o : Verdict} → o ≡ opening_of ring (Tasks p) → OneOf (0 ∷ []) (tag_of the_type o) → AskedAt ring p.0
+  tasks-open {p} {o} same told = tasks-passed {p = p} same (no-refusal o told)
