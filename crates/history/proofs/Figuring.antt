@@ -1,19 +1,19 @@
 -- The three figures of readings, found one reading after another; and how large a sum can be.
-use mathlib.Core.Path.{◌≡◌, sym, ap, ◌∙◌}
+use mathlib.Core.Path.{◌≡◌, ap, ◌∙◌}
 use mathlib.Core.Bool.{cond}
 use mathlib.Core.List.{List, ◌∷◌}
-use Prim.Native.Nat.{ℕ, suc, ◌+◌, ◌-◌, ◌<◌, ◌≤◌}
+use Prim.Native.Nat.{ℕ, suc, ◌+◌, ◌<◌, ◌≤◌}
 use native.Mathlib.Numerals.{add-one}
 use native.Mathlib.Omega.{arith}
 use lib.Dec.{ltb}
 use lib.IntN.{ℤ, pos, negsuc, sub_ℕ, ◌+ℤ◌}
 use lib.ListN.{length, get_or, take, drop}
 use lib.Signed.{mag, lt_z}
-use lib.Seq.{drop-cons, drop-length, length-take-le, get_or-take}
+use lib.Seq.{drop-cons, length-take-le, get_or-take}
 use Rattle.numbers.proofs.Splits.{by-test}
 use Rattle.history.specs.declared.Figures.{Figures}
 use Rattle.history.specs.declared.Figures.TheVariants.{Of}
-use Rattle.history.specs.History.{lowest, highest, sum, figures_of}
+use Rattle.history.specs.History.{lowest, highest, sum}
 
 -- the figures of readings of which some were found, and xs are to come
 abbrev pub told_from : (l h s : ℤ) → List ℤ → Figures
@@ -26,12 +26,6 @@ module _ (cells : List ℤ) (n : ℕ) (held : n ≤ length cells) where
   long : length xs ≡ n
   long = length-take-le n cells held
 
-  pub told-start : 1 ≤ n → figures_of xs ≡ (let x = get_or cells 0 (pos 0) in told_from x x x (drop 1 xs))
-  told-start some =
-      let x : ℤ = get_or xs 0 (pos 0) in
-      ap figures_of (drop-cons xs 0 (pos 0) (omega (arith, long)))
-      ∙ ap (λ (z : ℤ). told_from z z z (drop 1 xs)) (get_or-take n cells 0 (pos 0) (omega arith))
-
   pub told_more : (l h s : ℤ) (i : ℕ) → i < n →
       told_from l h s (drop i xs)
       ≡ (let x = get_or cells i (pos 0) in told_from (cond (lt_z x l) x l) (cond (lt_z h x) x h) (s +ℤ x) (drop (i + 1) xs))
@@ -39,9 +33,6 @@ module _ (cells : List ℤ) (n : ℕ) (held : n ≤ length cells) where
       rw (add-one i)
       (ap (told_from l h s) (drop-cons xs i (pos 0) (omega (arith, long)))
       ∙ ap (λ (x : ℤ). told_from l h s (x ∷ drop (suc i) xs)) (get_or-take n cells i (pos 0) inside))
-
-  pub told-end : (l h s : ℤ) → told_from l h s (drop n xs) ≡ Of (record { lowest = l; highest = h; sum = s })
-  told-end l h s = ap (λ (k : ℕ). told_from l h s (drop k xs)) (sym long) ∙ ap (told_from l h s) (drop-length xs)
 
 -- ---- the size of a sum
 mag-sub : (a b : ℕ) → mag (sub_ℕ a b) ≤ a + b

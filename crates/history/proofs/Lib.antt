@@ -1,6 +1,4 @@
 pub mod BlankEnds
-pub mod Bits
-pub mod Found
 pub mod Readings
 pub mod Figuring
 pub mod Rewritten

@@ -4,7 +4,7 @@ use mathlib.Core.Path.{◌≡◌, refl, sym, ap, ◌∙◌, subst}
 use mathlib.Core.Logic.{◌≢◌}
 use mathlib.Core.Bool.{Bool, true, false, cond, not, ◌&&◌, ◌||◌, true≢false, false≢true, and-eq-true_iff, and_assoc}
 use mathlib.Core.List.{List, [], ◌∷◌, ◌++◌, append-nil}
-use Prim.Native.Nat.{ℕ, suc, ◌+◌, ◌-◌, ◌^◌, ◌<◌}
+use Prim.Native.Nat.{ℕ, suc, ◌+◌, ◌^◌, ◌<◌, ◌≤◌}
 use native.Mathlib.Nat.{zero-add, add-zero, add-suc, suc-add}
 use native.Mathlib.Omega.{arith}
 use lib.Dec.{eqb, leb}
@@ -32,7 +32,7 @@ use Rattle.history.specs.Search.{begin_at, seen_at, sound_search, no_row, unchan
 use Rattle.history.proofs.Rewritten.{holds-cons, absent-first, absent-rest, once-absent, first-once, rest-once}
 
 -- the pass from row i on
-abbrev passed : ℕ → Search → List Row → Search
+abbrev pub passed : ℕ → Search → List Row → Search
 passed i s t = fold_rows seen_at i s t
 
 fine-passed : (t : List Row) (i : ℕ) (s : Search) → (passed i s t).fine ≡ s.fine && every sound_row t
@@ -119,6 +119,12 @@ module _ (b : BatchNo) (t : List Row) where
   abbrev pub pass : Search
   pass = passed 0 (begin_at b) t
 
+  -- where no row is left, what was kept is the whole pass
+  pub pass-end : (s : Search) (i : ℕ) → i ≤ length t → length t ≤ i → passed i s (drop i t) ≡ pass → s ≡ pass
+  pass-end s i within past e =
+      let is : i ≡ length t = omega arith in
+      sym (ap (passed i s) (ap (λ (k : ℕ). drop k t) is ∙ drop-length t)) ∙ e
+
   pub all-batches : length t ≡ row_limit → pass.batches ≡ batches_in t
   all-batches len =
       let bs : List ℕ = batches_in t in
@@ -162,7 +168,7 @@ module _ (b : BatchNo) (t : List Row) where
 
 -- ---- the three calls
 -- what is decided, done to the table, is the table after a call and its answer
-abbrev Does : Decision → List Row → Result → Type 0
+abbrev pub Does : Decision → List Row → Result → Type 0
 Does d t n = (set t d.at d.row ≡ n.table) × (d.answer ≡ n.verdict)
 
 -- a refusal stores nothing

@@ -5,8 +5,10 @@ use Prim.Native.Nat.{ℕ, suc, ◌+◌, ◌-◌, ◌<◌, ◌≤◌}
 use native.Mathlib.Omega.{arith}
 use lib.IntN.{ℤ, pos}
 use lib.ListN.{length, take, drop, set, replicate, length-append, length-drop}
-use lib.Seq.{set_at, append_snoc, length-take-le, take_all, drop-append-le}
-use Rattle.history.specs.Table.{reading_limit}
+use lib.Seq.{set_at, append_snoc, take_all, drop-append-le}
+use Rattle.batch.specs.declared.BatchNo.{BatchNo}
+use Rattle.history.specs.declared.Row.{Row}
+use Rattle.history.specs.Table.{reading_limit, row_with}
 use Rattle.history.specs.History.{joined}
 
 -- cells that begin with xs and have zeros after them
@@ -27,12 +29,6 @@ joined_is xs x = refl
 
 -- ---- what the readings become: `cells` are the row's cells, n of them in use
 module _ (cells : List ℤ) (x : ℤ) (len : length cells ≡ reading_limit) where
-  pub joined-short : (n : ℕ) → n < reading_limit → joined (take n cells) x ≡ take n (drop 0 cells) ++ x ∷ []
-  joined-short n room =
-      let used = length-joined (take n cells) n x (length-take-le n cells (omega (arith, len))) in
-      let none : length (take n cells ++ x ∷ []) - reading_limit ≡ 0 = omega (arith, used) in
-      joined_is (take n cells) x ∙ ap (λ (k : ℕ). drop k (take n cells ++ x ∷ [])) none
-
   pub joined-full : (n : ℕ) → reading_limit ≤ n → joined (take n cells) x ≡ take 23 (drop 1 cells) ++ x ∷ []
   joined-full n full =
       let one : length (cells ++ x ∷ []) - reading_limit ≡ 1 = omega (arith, length-joined cells 24 x len) in
@@ -41,3 +37,9 @@ module _ (cells : List ℤ) (x : ℤ) (len : length cells ≡ reading_limit) whe
       ∙ ap (λ (k : ℕ). drop k (cells ++ x ∷ [])) one
       ∙ drop-append-le 1 cells (x ∷ []) (omega (arith, len))
       ∙ ap (λ (xs : List ℤ). xs ++ x ∷ []) (sym (take_all 23 (drop 1 cells) (omega (arith, len, length-drop 1 cells))))
+
+-- the row whose cell after n readings is written
+pub row-joined : (b : BatchNo) (xs : List ℤ) (n : ℕ) (x : ℤ) (cells : List ℤ) → length xs ≡ n → n < reading_limit → cells ≡ cells_with xs n →
+    ◌≡◌ {A = Row} (record { batch = b; count = n + 1; readings = set cells n x }) (row_with b.0 (xs ++ x ∷ []))
+row-joined b xs n x cells len room are =
+    rw (length-joined xs n x len, are) (ap (λ (ys : List ℤ). record { batch = b; count = n + 1; readings = ys }) (one_more xs n x len room))

@@ -412,7 +412,7 @@ fn row_figures(row: Row) -> Figures
     Figures::Of(summed(&cells, Row::READINGS))
 }
 
-// The batch is in `search` too: the end of a question takes all that the question took (Asking.antt of `lent`).
+// The batch is in `search` too: the end of a question takes all that the question took.
 fn to_tell(search: Search, batch: BatchNo) -> Figures
     ensures { result ≡ to_tell search }
 {

@@ -1,0 +1,13 @@
+-- The pass at its end is the pass over the whole table, of which the figures are told.
+use Rattle.std.proofs.Common.{◌∙◌, ap}
+use Rattle.history.specs.Search.{to_tell}
+use Rattle.history.proofs.Passing.{pass-end, tell-passed}
+use Rattle.history.proofs.figures_of.Goals as goal
+
+pub returns : goal.returns
+returns c =
+    let b = c.args.batch in
+    let t = c.args.table.now in
+    c.to_tell.ensures
+    ∙ ap to_tell (pass-end b t c.loop-i.search c.loop-i.i c.loop-i.invariant.0 c.loop-i-test.false c.loop-i.invariant.1)
+    ∙ tell-passed b t
