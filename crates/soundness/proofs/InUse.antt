@@ -4,14 +4,13 @@ use Prim.Native.Nat.{ℕ, ◌+◌, ◌≤◌, ◌<◌}
 use mathlib.Core.Path.{◌≡◌}
 use mathlib.Core.Bool.{Bool, true, false, not, ◌&&◌, ◌||◌, or-false}
 use mathlib.Core.List.{List}
-use mathlib.Core.Logic.{◌⊎◌}
 use lib.Bits.{bit_or}
 use lib.Dec.{eqb, ltb}
 use lib.ListN.{length, get_or}
 use Rattle.batch.proofs.Places.{CountsUp}
 use Rattle.messages.specs.Decides.{Decides}
 use Rattle.messages.proofs.Decides.{restated, or-zero, decides-none}
-use Rattle.messages.proofs.Loops.{Counting, counting-start, counting-turn, counting-end}
+use Rattle.messages.proofs.Loops.{Counting, counting-start, counting-wrong, counting-right, counting-end}
 use Rattle.soundness.specs.Fits.{Either, Nothing}
 
 -- one test or the other, by a flag
@@ -38,13 +37,20 @@ module _ {P : Bool → ℕ → Type 0} {count n : ℕ} {places : List ℕ} where
   pub used_start : CountsUp places → CountingUsed P count n places 0 0
   used_start up = record { table = up; counted = counting-start }
 
-  pub used_turn : {wrong after i : ℕ} {r : Bool} {No Yes : Type 0} → CountingUsed P count n places wrong i → i < n → i < length places →
-      Decides r (P (ltb (get_or places i 0) count) i) → No ⊎ Yes → (No → (not r ≡ true) × (after ≡ wrong + 1)) →
-      (Yes → (not r ≡ false) × (after ≡ wrong)) → CountingUsed P count n places after (i + 1)
-  used_turn {i = i} before inside listed call came on-no on-yes =
+  pub used-wrong : {wrong after i : ℕ} {r : Bool} → CountingUsed P count n places wrong i → i < n → i < length places →
+      Decides r (P (ltb (get_or places i 0) count) i) → r ≡ false → after ≡ wrong + 1 → CountingUsed P count n places after (i + 1)
+  used-wrong {i = i} before inside listed call wrong e =
       record {
         table = before.table;
-        counted = counting-turn before.counted inside (rw (before.table.at i listed) at call) came on-no on-yes;
+        counted = counting-wrong before.counted inside (rw (before.table.at i listed) at call) wrong e;
+      }
+
+  pub used-right : {wrong after i : ℕ} {r : Bool} → CountingUsed P count n places wrong i → i < n → i < length places →
+      Decides r (P (ltb (get_or places i 0) count) i) → r ≡ true → after ≡ wrong → CountingUsed P count n places after (i + 1)
+  used-right {i = i} before inside listed call good e =
+      record {
+        table = before.table;
+        counted = counting-right before.counted inside (rw (before.table.at i listed) at call) good e;
       }
 
   pub used-end : {wrong i : ℕ} → CountingUsed P count n places wrong i → n ≤ i →
