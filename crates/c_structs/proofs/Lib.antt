@@ -1,1 +1,0 @@
--- No law of this crate is shared: its proofs stand by their functions.
