@@ -1,3 +1,4 @@
+-- A row is sound where its count and its cells are.
 use Rattle.std.proofs.Common.{rules}
 use Rattle.history.specs.Table.{sound_row}
 use Rattle.history.proofs.row_sound.Goals as goal
