@@ -29,6 +29,7 @@ pub fn u32_at(bytes: &[u8], at: usize) -> u32
 }
 
 // The number whose two's complement these 16 bits are.
+#[tactic(auto, using(crate::proofs::Twos::lower, crate::proofs::Twos::upper))]
 fn from_bits(bits: u16) -> i16
     ensures { result ≡ signed bits }
 {
@@ -78,6 +79,7 @@ pub fn put_u32(bytes: &mut [u8], value: u32)
 }
 
 // The two's complement of a number, as 16 bits.
+#[tactic(auto, using(crate::proofs::Twos::bits_below, crate::proofs::Twos::bits_above))]
 fn to_bits(value: i16) -> u16
     ensures { result ≡ twos value }
 {

@@ -1,0 +1,20 @@
+-- The fields that are judged are those of the record that the bytes stand for.
+use Rattle.std.proofs.Common.{◌∙◌, rules}
+use mir.Syntax.{w16}
+use mir.Val.{SFits}
+use mir.Facts.{to_z-of_z}
+use Rattle.wire.specs.Record.{record_in}
+use Rattle.wire.proofs.record_good.Goals as goal
+
+pub returns : goal.returns
+unfolding record_in
+returns c =
+    let fits : SFits w16 c.i16_at-temperature.result = search rules in
+    c.fields_good.ensures
+    ∙ rw (
+      c.u32_at-number.ensures,
+      c.u8_at-vessel.ensures,
+      to_z-of_z fits,
+      c.i16_at-temperature.ensures,
+      c.u8_at-name_length.ensures,
+    )
