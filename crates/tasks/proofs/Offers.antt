@@ -19,7 +19,7 @@ use Rattle.network.specs.declared.Head.{Head}
 use Rattle.network.specs.declared.HeadStep.{HeadStep}
 use Rattle.network.specs.declared.Ring.{Ring}
 use Rattle.network.specs.Answers.{step_of}
-use Rattle.network.specs.Network.{Network, channel_no, resting, asking, ready, count_of_nodes, channel, with_channel}
+use Rattle.network.specs.Network.{Network, channel_no, resting, ready, count_of_nodes, channel}
 use Rattle.network.specs.Sound.{is_resting, is_ready, absent}
 use Rattle.network.specs.Calls.{done, refused, accepted, unless, request, respond, offer_to, if_good}
 use Rattle.network.specs.Calls
