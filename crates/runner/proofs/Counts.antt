@@ -1,6 +1,6 @@
 -- The counts of a session are exact: those that stop at the largest number are the same as those that rise by one, as long as they stay
 -- below it, which the counts of a tape that is run do. So what is to come at the beginning is the listing.
-use Prim.Native.Nat.{ℕ, zero, suc, ◌+◌, ◌-◌, ◌≤◌, ◌<◌}
+use Prim.Native.Nat.{ℕ, zero, suc, ◌+◌, ◌≤◌, ◌<◌}
 use mathlib.Core.Path.{◌≡◌, refl, sym, ◌∙◌}
 use mathlib.Core.List.{List}
 use native.Mathlib.Omega.{arith}

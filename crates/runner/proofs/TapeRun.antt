@@ -1,12 +1,11 @@
 -- A tape is the run of its calls: line by line, by what was read.
-use Prim.Native.Nat.{ℕ, zero, suc, ◌≤◌, ◌<◌}
-use mathlib.Core.Path.{◌≡◌, refl, sym, ap, ◌∙◌}
+use Prim.Native.Nat.{ℕ, zero, suc, ◌≤◌}
+use mathlib.Core.Path.{◌≡◌, refl, ap, ◌∙◌}
 use mathlib.Core.Bool.{true, false}
 use mathlib.Core.List.{List, []}
 use native.Mathlib.Omega.{arith}
 use lib.ListN.{length}
 use borrow.Author.Tests.{le-ltb, eq-eqb}
-use Rattle.network.specs.declared.Ring.{Ring}
 use Rattle.network.specs.Layout.{call_ring}
 use Rattle.network.specs.Runs.{Call, run}
 use Rattle.network.specs.Sound.{next_count}

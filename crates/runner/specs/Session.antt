@@ -1,6 +1,6 @@
 -- A run of a tape, line by line: a session says where the run stands, and `next` what it prints next, in the words of document 01,
 -- "Command tape". How a count rises is a parameter: by one in the listing, and up to the largest number of 32 bits in the program.
-use Rattle.std.specs.Prelude.{ℕ, zero, suc, ◌+◌, Bool, true, false, cond, List, [], ◌++◌, ltb, length, get_or}
+use Rattle.std.specs.Prelude.{ℕ, zero, suc, ◌+◌, true, false, cond, List, [], ◌++◌, ltb, length, get_or}
 use Rattle.network.specs.declared.Step.{Step}
 use Rattle.network.specs.Answers.{call_of, step_of, is_refusal}
 use Rattle.network.specs.Calls.{refused}
