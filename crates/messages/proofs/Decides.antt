@@ -1,29 +1,18 @@
--- Laws of a test and its statement (specs/Decides): of answers that are known, of comparisons, and of tests joined by "and", "or" and
--- "not".
+-- Laws of a test and its statement (specs/Decides): of an answer of no, of comparisons, and of tests joined by "and".
 use Prim.Native.Nat.{ℕ, ◌≤◌, ◌<◌}
-use mathlib.Core.Path.{◌≡◌, refl, sym, ◌∙◌}
-use mathlib.Core.Logic.{◌⊎◌, inl, inr, ⊎_elim, ◌↔◌}
-use mathlib.Core.Bool.{Bool, true, false, not, ◌&&◌, ◌||◌, false≢true}
+use mathlib.Core.Path.{◌≡◌, sym, ◌∙◌}
+use mathlib.Core.Logic.{◌↔◌}
+use mathlib.Core.Bool.{Bool, true, false, ◌&&◌, false≢true}
 use native.Mathlib.Omega.{arith}
 use lib.Bits.{bit_or, or_add_and, and_le_l, and_le_r}
 use lib.Dec.{eqb, leb, ltb}
-use borrow.Author.Tests.{eqb-true, eq-eqb, leb-true, le-leb, ltb-true, lt-ltb, not-true, not-false}
+use borrow.Author.Tests.{eqb-true, eq-eqb, leb-true, le-leb, ltb-true, lt-ltb}
 use Rattle.network.proofs.Ground.Splits.{by-test, both_ways, and_left, and_right, and_both}
 use Rattle.messages.specs.Decides.{Decides}
 
 module _ {P : Type 0} where
-  pub says-yes : P → Decides true P
-  says-yes p = record { holds = λ e. p; passes = λ q. refl }
-
   pub says-no : (P → ⊥) → Decides false P
   says-no none = record { holds = λ e. absurd (false≢true e); passes = λ p. absurd (none p) }
-
-  -- what the call of a test says
-  pub refused : {r : Bool} → Decides r P → not r ≡ true → P → ⊥
-  refused {r} d said p = both_ways (d.passes p) (not-true r said)
-
-  pub granted : {r : Bool} → Decides r P → not r ≡ false → P
-  granted {r} d said = d.holds (not-false r said)
 
   -- another word for the same statement
   pub restated : {r : Bool} {Q : Type 0} → (P → Q) → (Q → P) → Decides r P → Decides r Q
@@ -35,9 +24,6 @@ same_test {a} {b} there back =
     by-test a (λ e. e ∙ sym (there e)) (λ e. by-test b (λ h. both_ways (back h) e) (λ h. e ∙ sym h))
 
 -- comparisons
-
-pub decides-flag : (b : Bool) → Decides b (b ≡ true)
-decides-flag b = record { holds = λ e. e; passes = λ e. e }
 
 pub decides-less : (a b : ℕ) → Decides (ltb a b) (a < b)
 decides-less a b = record { holds = ltb-true a b; passes = lt-ltb a b }
@@ -57,22 +43,6 @@ module _ {a b : Bool} {A B : Type 0} (first : Decides a A) (second : Decides b B
         holds = λ e. (first.holds (and_left a b e), second.holds (and_right a b e));
         passes = λ p. and_both a b (first.passes p.0) (second.passes p.1);
       }
-
-  pub decides_or : Decides (a || b) (A ⊎ B)
-  decides_or =
-      record {
-        holds = λ e. by-test a (λ h. inl (first.holds h)) (λ h. inr (second.holds (rw h at e)));
-        passes =
-            ⊎_elim (λ p. rw (first.passes p))
-            (λ q. by-test a (λ h. rw h) (λ h. rw h (second.passes q)));
-      }
-
-pub decides_not : {a : Bool} {A : Type 0} → Decides a A → Decides (not a) (A → ⊥)
-decides_not {a} d =
-    record {
-      holds = λ e. refused d e;
-      passes = λ none. by-test a (λ h. absurd (none (d.holds h))) (λ h. rw h);
-    }
 
 -- numbers joined by "or" are zero where all are
 

@@ -1,14 +1,12 @@
 -- The loops of the test. Each goes over all its places and keeps one number: what it has found wrong, which is 0 exactly when the
 -- statement holds of every place passed (`Judging`), or what the places passed add up to (`Summing`). For each: the invariant, that it
--- holds at the start, that a turn keeps it, and what it says at the end.
+-- holds at the start and that a turn keeps it; and what a sum is at the end.
 use Prim.Native.Nat.{ℕ, ◌+◌, ◌*◌, ◌≤◌, ◌<◌}
 use mathlib.Core.Path.{◌≡◌, refl, sym}
 use mathlib.Core.Bool.{Bool, true, false, false≢true}
 use native.Mathlib.Nat.{not-suc-le-zero}
 use native.Mathlib.Numerals.{add-one}
 use native.Mathlib.Omega.{arith}
-use lib.Dec.{eqb}
-use borrow.Author.Tests.{eqb-true, eq-eqb}
 use Rattle.network.specs.Counting.{sum}
 use Rattle.network.proofs.Ground.Splits.{by-same}
 use Rattle.messages.specs.Decides.{Decides}
@@ -34,11 +32,6 @@ module _ {P : ℕ → Type 0} {n : ℕ} where
             by-same j i (λ same. rw same (is_right e).1) (λ other. before.right (is_right e).0 j (omega arith));
         none = λ all. is_none (before.none (λ j l. all j (omega arith))) (all i (omega arith));
       }
-
-  pub judging-end : {found i : ℕ} → Judging P n found i → n ≤ i → Decides (eqb found 0) ((j : ℕ) → j < n → P j)
-  judging-end {found} {i} whole past =
-      let end : n ≡ i = omega (arith, whole.within) in
-      rw end (record { holds = λ e. whole.right (eqb-true found 0 e); passes = λ all. eq-eqb found 0 (whole.none all) })
 
 -- the wrong places are counted, each judged by a call
 
@@ -69,9 +62,6 @@ module _ {P : ℕ → Type 0} {n : ℕ} where
         judged = judging-turn before.judged inside (λ z. (z, call.holds good)) (λ z p. z);
         few = omega (arith, before.few);
       })
-
-  pub counting-end : {wrong i : ℕ} → Counting P n wrong i → n ≤ i → Decides (eqb wrong 0) ((j : ℕ) → j < n → P j)
-  counting-end whole past = judging-end whole.judged past
 
 -- f added up over the places below n, each at most `most`
 

@@ -50,9 +50,6 @@ pub record Passing (c place : ℕ) (cells seen₀ : List ℕ) (i : ℕ) (seen : 
   pub same : mark c place cells seen₀ ≡ mark c place (drop i cells) seen
 
 module _ (c place : ℕ) (cells seen₀ : List ℕ) where
-  pub passing-start : Passing c place cells seen₀ 0 seen₀
-  passing-start = record { within = omega arith; long = refl; same = refl }
-
   module _ {i : ℕ} {seen : List ℕ} (p : Passing c place cells seen₀ i seen) where
     pub passing-stops : i < length cells → (Fresh c seen (get_or cells i 0) → ⊥) → mark c place cells seen₀ ≡ none
     passing-stops inside stale =

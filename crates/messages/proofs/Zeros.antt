@@ -108,7 +108,3 @@ four-zero any a b c d = (
       (all.0, ((or-zero _ _).0 two.0, (two.1, three.1)))),
   (λ h. (or-zero _ _).1 (h.0, (or-zero _ _).1 ((or-zero _ _).1 ((or-zero _ _).1 h.1.0, h.1.1.0), h.1.1.1))),
 )
-
--- beyond the end nothing is read
-pub zero-beyond : (xs : List ℕ) (n : ℕ) → length xs ≡ n → ((i : ℕ) → i < n → get_or xs i 0 ≡ 0) → Blank xs
-zero-beyond xs n e zero i = by_less i n (zero i) (λ l. get_or-eq_default xs 0 (rw e l))

@@ -1,6 +1,6 @@
 -- Tests of what is in use or else holds nothing (specs/Fits, `Either` and `Nothing`): of one thing, by a flag, and of all, in a loop over
 -- places of which the first are in use.
-use Prim.Native.Nat.{ℕ, ◌+◌, ◌≤◌, ◌<◌}
+use Prim.Native.Nat.{ℕ, ◌+◌, ◌<◌}
 use mathlib.Core.Path.{◌≡◌}
 use mathlib.Core.Bool.{Bool, true, false, not, ◌&&◌, ◌||◌, or-false}
 use mathlib.Core.List.{List}
@@ -10,7 +10,7 @@ use lib.ListN.{length, get_or}
 use Rattle.batch.proofs.Places.{CountsUp}
 use Rattle.messages.specs.Decides.{Decides}
 use Rattle.messages.proofs.Decides.{restated, or-zero, decides-none}
-use Rattle.messages.proofs.Loops.{Counting, counting-start, counting-wrong, counting-right, counting-end}
+use Rattle.messages.proofs.Loops.{Counting, counting-start, counting-wrong, counting-right}
 use Rattle.soundness.specs.Fits.{Either, Nothing}
 
 -- one test or the other, by a flag
@@ -52,7 +52,3 @@ module _ {P : Bool → ℕ → Type 0} {count n : ℕ} {places : List ℕ} where
         table = before.table;
         counted = counting-right before.counted inside (rw (before.table.at i listed) at call) good e;
       }
-
-  pub used-end : {wrong i : ℕ} → CountingUsed P count n places wrong i → n ≤ i →
-      Decides (eqb wrong 0) ((k : ℕ) → k < n → P (ltb k count) k)
-  used-end whole past = counting-end whole.counted past

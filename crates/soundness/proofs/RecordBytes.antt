@@ -41,16 +41,13 @@ every-cut (suc k) [] = refl
 every-cut (suc k) (x ∷ xs) =
     and-associates (is_zero x) (every is_zero (take k xs)) (every is_zero (drop k xs)) ∙ ap (λ rest. is_zero x && rest) (every-cut k xs)
 
--- a word more: one of its cells is not zero, or all are and the rest decides
+-- a word more: where its cells are zero, the rest decides
 module _ (w : ℕ) (xs : List ℕ) (word : ℕ) (before : every is_zero (drop (w * word) xs) ≡ every is_zero xs) where
   parted : every is_zero xs ≡ (every is_zero (row w xs word) && every is_zero (drop (w * word + w) xs))
   unfolding row
   parted =
       sym before ∙ sym (every-cut w (drop (w * word) xs))
       ∙ ap (λ rest. every is_zero (take w (drop (w * word) xs)) && every is_zero rest) (drop-drop w (w * word) xs)
-
-  pub word-wrong : every is_zero (row w xs word) ≡ false → every is_zero xs ≡ false
-  word-wrong e = parted ∙ rw e
 
   pub word-passed : every is_zero (row w xs word) ≡ true → every is_zero (drop (w * (word + 1)) xs) ≡ every is_zero xs
   word-passed e =
