@@ -121,10 +121,6 @@ module _ (cells : List ℕ) (base k : ℕ) (xs : List ℕ)
   stands-where : stands_in cells base (suc k) (length xs) ≡ ltb 0 (count k xs)
   stands-where = stands-counted (length xs) (omega arith) ∙ ap (λ ys. ltb 0 (count k ys)) (take_all (length xs) xs (omega arith))
 
--- the way from a node that was found is the way from where it is
-pub way-found : (n q : ℕ) {r from p : ℕ} → r ≡ hops_between n from q → from ≡ p → r ≡ hops_between n p q
-way-found n q said found = said ∙ ap (λ p. hops_between n p q) found
-
 -- the node where a message is: the one that holds it in its buffer, or else the node of entry
 abbrev stands_at : Option NodeNo → ℕ → ℕ
 stands_at none entry = entry

@@ -3,22 +3,20 @@
 use Prim.Native.Nat.{ℕ, zero, suc, ◌+◌, ◌*◌, ◌^◌, ◌≤◌, ◌<◌}
 use mathlib.Core.Path.{◌≡◌, refl, sym, ap, ◌∙◌}
 use mathlib.Core.Bool.{Bool, true, false, ◌&&◌, not}
-use native.Mathlib.Nat.{pow-suc, mul_assoc, mul-add, mul_comm, add_comm, lt_of_lt_of_le}
+use native.Mathlib.Nat.{pow-suc, mul_assoc, mul-add, mul_comm, add_comm}
 use native.Mathlib.Omega.{arith}
 use lib.Count.{ones, ones_in, ones_cat}
 use lib.Dec.{eqb, ltb}
-use lib.Pow.{pow_mono}
 use borrow.Author.Tests.{lt-ltb}
-use Rattle.numbers.specs.declared.NodeNo.{NodeNo}
 use Rattle.network.specs.declared.Head.{Head}
 use Rattle.network.specs.declared.Ring.{Ring}
 use Rattle.network.specs.Counting.{one, sum}
-use Rattle.network.specs.Network.{Network, Phase, resting, asking, ready, answering, node_no, channel_no, count_of_nodes, count_of_channels, channel}
+use Rattle.network.specs.Network.{Phase, resting, asking, ready, answering, node_no, channel_no, count_of_nodes, count_of_channels, channel}
 use Rattle.network.specs.Sound.{is_resting}
 use Rattle.network.specs.Calls.{waiting_are, accepted, waits, waiting_of}
 use Rattle.network.specs.Calls
 use Rattle.network.specs.Runs
-use Rattle.network.specs.Layout.{channel_room, phase_code, view, sound_ring, call_ring}
+use Rattle.network.specs.Layout.{phase_code, view, sound_ring, call_ring}
 use Rattle.network.proofs.Ground.Splits.{by-test}
 use Rattle.network.proofs.Ground.Counting.{sum_same, one-most}
 use Rattle.network.proofs.Memory.Held.{SoundRing, sound-ring}
@@ -51,10 +49,6 @@ bit_moved b set k i e f =
 
 pub set-doubled : (m set b : ℕ) → set < 2 ^ m → b ≤ 1 → 2 * set + b < 2 ^ suc m
 set-doubled m set b l s = rw (pow-suc 2 m) (omega arith)
-
--- 64 bits are enough for all channels
-pub set-fits : (m set b : ℕ) → m < channel_room → set < 2 ^ m → b ≤ 1 → 2 * set + b < 2 ^ channel_room
-set-fits m set b few l s = lt_of_lt_of_le (set-doubled m set b l s) (pow_mono few)
 
 -- the call at a node of a sound ring
 
