@@ -1,14 +1,12 @@
 -- Laws of a good record and of the first refusal that applies. Callers cite these and not the text of the definitions, so that
 -- a limit or a clause can change behind its name.
 use mathlib.Core.Path.{◌≡◌, refl, sym, ap, ◌∙◌}
-use mathlib.Core.Bool.{true, false, not, ◌&&◌, false≢true, and-eq-true_iff}
-use Prim.Native.Nat.{ℕ, ◌≤◌, ◌<◌, ◌^◌}
+use mathlib.Core.Bool.{true, false, ◌&&◌, false≢true, and-eq-true_iff}
+use Prim.Native.Nat.{◌≤◌, ◌<◌, ◌^◌}
 use native.Mathlib.Omega.{arith}
-use lib.Dec.{leb, ltb, lit≤}
-use lib.IntN.{ℤ, pos, negsuc}
-use lib.Signed.{le_z, lt_z}
+use lib.Dec.{lit≤}
 use lib.ListN.{length}
-use borrow.Author.Tests.{eq-eqb, ne_eqb, le-leb, lt-leb, lt-ltb, ltb-true, ltb-false}
+use borrow.Author.Tests.{eq-eqb, ne_eqb, le-leb, lt-leb, lt-ltb}
 use Rattle.refusal.specs.declared.Refusal.{Refusal}
 use Rattle.refusal.specs.declared.Refusal.TheVariants.{BatchNumberZero, TemperatureOutOfRange, NameTooLong, BadName, BlankEnd}
 use Rattle.refusal.specs.declared.Verdict.{Verdict}
@@ -19,17 +17,6 @@ use Rattle.refusal.proofs.Verdicts.{has_passed, has-passed, zero-passed}
 use Rattle.batch.specs.declared.BatchRecord.{BatchRecord}
 use Rattle.batch.specs.Good.{in_range, name_limit, batch_good, temp_good, name_length_good, name_good, widths_good}
 use Rattle.batch.specs.Good.{good_record, verdict_of, blank_ends, send_verdict, GoodExactly, GoodIsZero, GoodNumber, SentExactly, Means30}
-
--- a `≤` of integers is the failure of the other `<`
-leb-not-ltb : (a b : ℕ) → leb a b ≡ not (ltb b a)
-leb-not-ltb a b =
-    by-test (ltb b a) (λ e. rw (e, lt-leb a b (ltb-true b a e))) (λ e. rw (e, le-leb a b (ltb-false b a e)))
-
-pub le_z_not_lt_z : (a b : ℤ) → le_z a b ≡ not (lt_z b a)
-le_z_not_lt_z (pos a) (pos b) = leb-not-ltb a b
-le_z_not_lt_z (pos a) (negsuc b) = refl
-le_z_not_lt_z (negsuc a) (pos b) = refl
-le_z_not_lt_z (negsuc a) (negsuc b) = leb-not-ltb b a
 
 -- the clauses that a good record passes
 pub record Passes (r : BatchRecord) : Type 0 where
