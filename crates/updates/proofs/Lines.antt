@@ -1,6 +1,6 @@
 -- A channel in a line, found by the cell that holds its number and one more: where it stands first, the line splits there, and without the
 -- channel it is the two parts; where no cell holds it, it is not in the line.
-use Prim.Native.Nat.{ℕ, zero, suc, ◌+◌, ◌<◌}
+use Prim.Native.Nat.{ℕ, zero, suc, ◌<◌}
 use mathlib.Core.Path.{◌≡◌, refl, ap}
 use mathlib.Core.Logic.{◌≢◌}
 use mathlib.Core.List.{List, [], ◌∷◌, ◌++◌}
@@ -11,12 +11,7 @@ use Rattle.numbers.specs.declared.ChannelNo.{ChannelNo}
 use Rattle.network.specs.Counting.{weigh}
 use Rattle.network.specs.Network.{channel_no, times_in, without}
 use Rattle.network.specs.Layout.{cells_of}
-use Rattle.network.proofs.Ground.Splits.{by-same}
 use Rattle.network.proofs.Ground.Counting.{count_same, count-other}
-
--- what holds of every index below i, and of i, holds of every index below the next
-pub one_further : {P : ℕ → Type 0} (i : ℕ) → ((j : ℕ) → j < i → P j) → P i → (j : ℕ) → j < i + 1 → P j
-one_further i before here j l = by-same j i (λ e. rw e here) (λ d. before j (omega arith))
 
 -- channel k stands in xs, behind `front`
 pub record SplitAt (k : ℕ) (xs : List ChannelNo) (i : ℕ) : Type 0 where

@@ -5,18 +5,13 @@ use Prim.Native.Nat.{ℕ, ◌<◌}
 use mathlib.Core.Path.{◌≡◌, refl, sym, ap, ◌∙◌}
 use mathlib.Core.Logic.{◌≢◌}
 use mathlib.Core.Bool.{Bool, true, false, not}
-use mathlib.Core.List.{[], ◌∷◌}
 use native.Mathlib.Omega.{arith}
-use types.Run.{OneOf}
-use denote.Enum.Declared.{tag_of}
 use lib.Dec.{ltb}
 use borrow.Author.Tests.{ltb-true, ne_eqb}
 use Rattle.refusal.specs.declared.Refusal.{Refusal}
 use Rattle.refusal.specs.declared.Refusal.TheVariants.{UnsoundRing, AlreadyStarted, NotStarted, NoSuchChannel, NoSuchNode}
 use Rattle.refusal.specs.declared.Verdict.{Verdict}
 use Rattle.refusal.specs.declared.Verdict.TheVariants.{Passed, Refused}
-use Rattle.refusal.specs.contracts.Verdict.{the_type}
-use Rattle.refusal.proofs.Verdicts.{no-refusal}
 use Rattle.numbers.specs.declared.ChannelNo.{ChannelNo}
 use Rattle.numbers.specs.declared.NodeNo.{NodeNo}
 use Rattle.network.specs.declared.Ring.{Ring}
@@ -146,7 +141,7 @@ module _ (a : Call) (ring : Ring) where
       s ≡ refused_step ring.head r → step_in s ring.slots ring.lines ring.offers ring.carried ≡ step_of ring (call_ring a ring)
   turns-away same told e = refuses ring (opening-refused (sym same ∙ told)) e
 
--- where an opening passed all its tests passed
+-- where an opening passed, all its tests passed
 
 test-open : (b : Bool) (x : Refusal) (rest : Verdict) → unless b (Refused x) rest ≡ Passed → (b ≡ true) × (rest ≡ Passed)
 test-open true x rest e = (refl, e)
@@ -187,17 +182,3 @@ module _ (ring : Ring) where
       let sound = sound-open (Tasks p) same told in
       let there = test-open (ltb p.0 ring.head.node_count) NoSuchNode Passed sound.1 in
       record { ok = sound.0; there = ltb-true _ _ there.0 }
-
-  -- the same where an arm of a `match` is of no refusal
-
-  pub plan-open : {o : Verdict} → o ≡ opening_of ring Plan → OneOf (0 ∷ []) (tag_of the_type o) → Planned ring
-  plan-open {o} same told = plan-passed same (no-refusal o told)
-
-  pub channel-open : {k : ChannelNo} {o : Verdict} → o ≡ opening_of ring (Channel k) → OneOf (0 ∷ []) (tag_of the_type o) → AtChannel ring k.0
-  channel-open {k} {o} same told = channel-passed {k = k} same (no-refusal o told)
-
-  pub node-open : {p : NodeNo} {o : Verdict} → o ≡ opening_of ring (Node p) → OneOf (0 ∷ []) (tag_of the_type o) → AtNode ring p.0
-  node-open {p} {o} same told = node-passed {p = p} same (no-refusal o told)
-
-  pub tasks-open : {p : NodeNo} {o : Verdict} → o ≡ opening_of ring (Tasks p) → OneOf (0 ∷ []) (tag_of the_type o) → AskedAt ring p.0
-  tasks-open {p} {o} same told = tasks-passed {p = p} same (no-refusal o told)
