@@ -6,7 +6,6 @@ use mathlib.Core.Bool.{Bool, true, false, cond}
 use mathlib.Core.List.{List, [], ◌∷◌, ◌++◌}
 use mathlib.Core.Logic.{◌≢◌}
 use native.Mathlib.Nat.{lt_irrefl}
-use native.Mathlib.Omega.{arith}
 use borrow.Author.Rules.{rules}
 use borrow.Author.Tests.{ne_eqb, eqb-true}
 use lib.Dec.{eqb}
@@ -18,7 +17,6 @@ use Rattle.wire.specs.Record.{fields_in, FieldsFit}
 use Rattle.command.specs.declared.Action.{Action}
 use Rattle.command.specs.declared.Action.TheVariants.{AddNode, AddChannel, Start, Receive, Send, Enter, Move, Withdraw}
 use Rattle.command.specs.declared.Command.{Command}
-use Rattle.tape.specs.declared.Parts.{Parts}
 use Rattle.tape.specs.declared.Shape.{Shape}
 use Rattle.tape.specs.Shape.{width_of, fields_with, bytes_with}
 use Rattle.tape.specs.Table.{Row, no_row, row_of, find, commands, parts_of, command_in, shape_of, plain, bytes_of, width}

@@ -23,7 +23,7 @@ use Rattle.batch.specs.declared.sending.Fields.{Fields}
 use Rattle.wire.specs.Bytes.{Bytes, overwritten}
 use Rattle.wire.specs.Record.{FieldsFit}
 use Rattle.tape.specs.Shape.{width_of}
-use Rattle.tape.specs.Table.{Row, row_of, parts_of, shape_of, command_in, bytes_of, width, plain}
+use Rattle.tape.specs.Table.{row_of, parts_of, shape_of, command_in, bytes_of, width, plain}
 use Rattle.tape.specs.Tape.{with_none, read_row, read_at, write_at, after_write}
 use Rattle.tape.specs.RoundTrip.{found, OperandsFit, WrittenReadsBack, PlainReadsBack, ReadWritesBack, ReadIsPlain}
 use Rattle.tape.specs.RoundTrip.{ReadsBack, WritesBack}

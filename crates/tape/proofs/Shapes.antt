@@ -1,16 +1,16 @@
 -- Laws of the shapes of a command, by cases of the shape: a command is as long as its shape says, what was written is read, and what was read
 -- is written. The laws of the rows (Rows.antt) stand on these.
-use Prim.Native.Nat.{ℕ, ◌+◌, ◌%◌, ◌<◌, ◌≤◌}
+use Prim.Native.Nat.{ℕ, ◌+◌, ◌<◌, ◌≤◌}
 use mathlib.Core.Path.{◌≡◌, refl, sym, ap, ◌∙◌}
 use mathlib.Core.Bool.{Bool, true, false, false≢true, cond}
-use mathlib.Core.List.{List, [], ◌++◌}
+use mathlib.Core.List.{List, ◌++◌}
 use native.Mathlib.Nat.{lt_irrefl}
 use native.Mathlib.Omega.{arith}
 use lib.ListN.{length, get_or, take, drop, length-drop}
 use lib.Seq.{take-add}
 use Rattle.batch.specs.declared.sending.Fields.{Fields}
 use Rattle.wire.specs.Bytes.{little, part, number_at, Bytes}
-use Rattle.wire.specs.Record.{record_length, field_bytes, fields_in, FieldsFit}
+use Rattle.wire.specs.Record.{record_length, fields_in, FieldsFit}
 use Rattle.wire.proofs.Numbers.{number-little, number-one}
 use Rattle.wire.proofs.Bytes.{part-written, bytes_drop}
 use Rattle.wire.proofs.Record.{length-record, fields-read-back, fields-write-back}

@@ -1,5 +1,5 @@
 -- The shapes of a command: what follows its command byte. A shape has the width, and how operands are written and read.
-use Rattle.std.specs.Prelude.{ℕ, ◌+◌, Bool, true, false, cond, List, [], ◌∷◌, ◌++◌}
+use Rattle.std.specs.Prelude.{ℕ, ◌+◌, Bool, true, false, cond, List, [], ◌++◌}
 use Rattle.batch.specs.declared.sending.Fields.{Fields}
 use Rattle.batch.specs.Sending.{no_fields}
 use Rattle.wire.specs.Bytes.{little}

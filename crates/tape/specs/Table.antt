@@ -2,7 +2,7 @@
 -- shape, and the action that its operands make. The inverse, the command byte and the operands of an action, is given once beside it.
 --
 -- What a new command of a known shape costs: here its row and its line of `parts_of`; in the code the variant of `Action` and a line each of
--- `row_of` and `parts_of`; in proofs/, where all is computed, a line each in `row_of`, `parts_of` and `made` (CommandTable.antt).
+-- `row_of` and `parts_of`; in proofs/, where all is computed, a line of `made` and a part of `all_fair` (CommandTable.antt).
 use Rattle.std.specs.Prelude.{ℕ, ◌≡◌, cond, List, [], ◌∷◌, eqb, drop}
 use Rattle.batch.specs.declared.sending.Scale.{Scale}
 use Rattle.batch.specs.declared.sending.Scale.TheVariants.{Tenths, Hundredths}

@@ -68,6 +68,7 @@ pub struct Parts {
 }
 
 // The table, to read: a line for each command.
+#[tactic(auto, unfolding(crate::specs::Table::row_of, crate::specs::Table::find, crate::specs::Table::commands))]
 pub fn row_of(code: u8, first: u8, second: u8) -> Row
     ensures { result ≡ row_with (row_of code) first second }
 {
