@@ -1,7 +1,8 @@
 -- The cells of a row, turned one after another: what a loop has after some, and what it ends with.
-use mathlib.Core.Path.{◌≡◌, refl, ap}
+use mathlib.Core.Path.{◌≡◌, refl, sym, ap, ◌∙◌}
 use mathlib.Core.List.{List, [], ◌∷◌, map}
-use Prim.Native.Nat.{ℕ, zero, suc, ◌<◌, ◌≤◌}
+use Prim.Native.Nat.{ℕ, zero, suc, ◌+◌, ◌<◌, ◌≤◌}
+use native.Mathlib.Numerals.{add-one}
 use native.Mathlib.Nat.{not-suc-le-zero, le_of_suc-le-suc}
 use lib.IntN.{ℤ}
 use lib.ListN.{length, get_or, set}
@@ -32,6 +33,21 @@ module _ {A : Type 0} (f : A → A) where
   one_more [] n d l = absurd (not-suc-le-zero l)
   one_more (x ∷ xs) zero d l = refl
   one_more (x ∷ xs) (suc n) d l = ap (λ ys. f x ∷ ys) (one_more xs n d (le_of_suc-le-suc l))
+
+  at-next : (xs : List A) (n : ℕ) (d : A) → get_or (at_first n xs) n d ≡ get_or xs n d
+  at-next [] zero d = refl
+  at-next [] (suc n) d = refl
+  at-next (x ∷ xs) zero d = refl
+  at-next (x ∷ xs) (suc n) d = at-next xs n d
+
+  -- a turn of a loop that reads the element where it writes it
+  pub turned-in-place :
+      (xs ys : List A) (n : ℕ) (d y : A) → n < length xs → ys ≡ at_first n xs → y ≡ f (get_or ys n d) → set ys n y ≡ at_first (n + 1) xs
+  turned-in-place xs ys n d y l e is =
+      ap (λ (z : A). set ys n z) (is ∙ ap (λ (zs : List A). f (get_or zs n d)) e ∙ ap f (at-next xs n d))
+      ∙ ap (λ (zs : List A). set zs n (f (get_or xs n d))) e
+      ∙ one_more xs n d l
+      ∙ ap (λ (k : ℕ). at_first k xs) (sym (add-one n))
 
   pub all_of : (xs : List A) (n : ℕ) → length xs ≤ n → at_first n xs ≡ map f xs
   all_of [] zero l = refl

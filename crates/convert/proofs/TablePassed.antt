@@ -1,8 +1,11 @@
 -- What one pass over a table decides is what the definition says, and so is what the rows then become.
-use mathlib.Core.Path.{◌≡◌, refl, ap, ◌∙◌}
+use mathlib.Core.Path.{◌≡◌, refl, sym, ap, ◌∙◌}
 use mathlib.Core.Bool.{Bool, true, ◌&&◌, and_assoc, and-eq-true_iff}
 use mathlib.Core.List.{List, [], ◌∷◌, map}
-use Prim.Native.Nat.{ℕ, suc}
+use Prim.Native.Nat.{ℕ, suc, ◌≤◌}
+use native.Mathlib.Omega.{arith}
+use lib.ListN.{length, drop}
+use lib.Seq.{drop-length}
 use Rattle.refusal.specs.declared.Refusal.TheVariants.{UnsoundRing}
 use Rattle.refusal.specs.declared.Verdict.{Verdict}
 use Rattle.refusal.specs.declared.Verdict.TheVariants.{Passed, Refused}
@@ -52,6 +55,13 @@ turned-passed (r ∷ t) i p = turned-passed t (suc i) (pass_seen p r i)
 module _ (t : List Row) where
   abbrev answered : Verdict
   answered = decided (passed 0 pass_begun t)
+
+  -- where no row is left, what was kept is the whole pass
+  pub at-end :
+      {v : Verdict} (p : Pass) (i : ℕ) → i ≤ length t → length t ≤ i → passed i p (drop i t) ≡ passed 0 pass_begun t → v ≡ decided p → v ≡ answered
+  at-end p i within past e is =
+      let end : i ≡ length t = omega arith in
+      is ∙ ap decided (sym (ap (passed i p) (ap (λ (k : ℕ). drop k t) end ∙ drop-length t)) ∙ e)
 
   sound-turned : sound_search (passed 0 pass_begun t).turned ≡ sound_table (map turned_row t)
   sound-turned = ap sound_search (turned-passed t 0 pass_begun) ∙ sound-pass (record { 0 = 0 }) (map turned_row t)
