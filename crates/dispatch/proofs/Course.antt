@@ -88,11 +88,6 @@ pub record InCourse (given : ℕ) (ring : Ring) (l : Log) (done : ℕ) (now : Ri
   pub can-go : CanGo now kept.count
   pub comes-to : end_of (given - done) done now kept ≡ end_of given 0 ring l
 
-pub course-begins : (given : ℕ) {ring : Ring} (l : Log) → CanGo ring l.count → InCourse given ring l 0 ring l
-course-begins given {ring} l h =
-    let all : given - 0 ≡ given = omega arith in
-    record { within = omega arith; can-go = h; comes-to = ap (λ left. end_of left 0 ring l) all }
-
 module _ {given : ℕ} {ring : Ring} {l : Log} {done : ℕ} {now : Ring} {kept : Log} (c : InCourse given ring l done now kept) where
   nodes-are : {other : Ring} {count : ℕ} → CanGo other count → other.head.node_count ≡ count_of_nodes (view other)
   nodes-are {other} h = (sound-ring other h.ok).holds.node-count

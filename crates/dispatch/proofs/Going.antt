@@ -19,7 +19,7 @@ use Rattle.network.specs.Calls.{Outcome, refused, accepted, unless, done, has_sl
 use Rattle.network.specs.Calls
 use Rattle.network.specs.Answers.{delivered_in, step_of}
 use Rattle.network.specs.Runs.{Call, enter, move, after, run}
-use Rattle.network.specs.Layout.{node_room, channel_room, view, sound_ring, held_outcome, call_ring}
+use Rattle.network.specs.Layout.{channel_room, view, sound_ring, held_outcome, call_ring}
 use Rattle.network.specs.Dispatch.{round, listed, handed_by, deliveries}
 use Rattle.network.proofs.Memory.Held.{sound-ring}
 use Rattle.network.proofs.Promises.Acts.{run-append, deliveries-append}
@@ -36,9 +36,6 @@ can-begin ring ok going = record { ok = ok; going = going; room = omega (arith, 
 
 pub at-node : {ring : Ring} {count : ℕ} (p : ℕ) → CanGo ring count → p < ring.head.node_count → AtNode ring p
 at-node p h l = record { ok = h.ok; going = h.going; there = l }
-
-pub few-nodes : {ring : Ring} {count : ℕ} → CanGo ring count → ring.head.node_count ≤ node_room
-few-nodes {ring} h = let s = sound-ring ring h.ok in omega (arith, s.holds.node-count, s.fits.nodes-fit)
 
 -- one entry or move: the ring that it leaves, and the deliveries with it
 
@@ -68,9 +65,6 @@ module _ {ring : Ring} {count : ℕ} (h : CanGo ring count) (a : Call) (g : goes
       }
 
 -- made one after the other
-
-pub went-none : (ring : Ring) (l : Log) → CallsMade [] ring l ring l
-went-none ring l = record { ring-is = refl; log_is = refl }
 
 pub went_on : {xs : List Call} {ring : Ring} {l : Log} {next : Ring} {kept : Log} (ys : List Call) {last : Ring} {all : Log} →
     CallsMade xs ring l next kept → CallsMade ys next kept last all → CallsMade (xs ++ ys) ring l last all
@@ -172,10 +166,6 @@ pub record InRound (ring : Ring) (l : Log) (nodes node : ℕ) (now : Ring) (kept
   pub went : CallsMade (round node) ring l now kept
   pub same_nodes : now.head.node_count ≡ nodes
 
-pub round-begins : {ring : Ring} (l : Log) → CanGo ring l.count → InRound ring l ring.head.node_count 0 ring l
-round-begins {ring} l h =
-    record { within = omega arith; nodes-are = refl; can-go = h; went = went-none ring l; same_nodes = refl }
-
 pub round-goes-on : {ring : Ring} {l : Log} {nodes node : ℕ} {now : Ring} {kept : Log} {next : Ring} {more : Log} →
     InRound ring l nodes node now kept →
     node < nodes → CallsMade (enter (node_no node) ∷ move (node_no node) ∷ []) now kept next more → InRound ring l nodes (node + 1) next more
@@ -188,9 +178,3 @@ round-goes-on {node = node} r below w =
       went = rw (add-one node) (went_on (enter (node_no node) ∷ move (node_no node) ∷ []) r.went w);
       same_nodes = nodes-stay visit r.can-go w ∙ r.same_nodes;
     }
-
-pub round-made : {ring : Ring} {l : Log} {nodes node : ℕ} {now : Ring} {kept : Log} → InRound ring l nodes node now kept → nodes ≤ node →
-    CallsMade (round nodes) ring l now kept
-round-made {ring} {l} {nodes} {node} {now} {kept} r all =
-    let same : node ≡ nodes = omega (arith, r.within) in
-    subst (λ n. CallsMade (round n) ring l now kept) same r.went

@@ -30,7 +30,7 @@ use Rattle.network.proofs.Promises.Dispatch.{Going, none-go, go, going-round, go
 use Rattle.updates.specs.Flat.{recorded}
 use Rattle.updates.proofs.Records.{recorded_row}
 use Rattle.dispatch.specs.declared.HeadRun.{HeadRun}
-use Rattle.dispatch.specs.Log.{Log, log_of, logged, logged_all, record_rows, records_in, Kept, kept_of, told_from}
+use Rattle.dispatch.specs.Log.{Log, log_of, logged, logged_all, record_rows, Kept, kept_of, told_from}
 use Rattle.dispatch.specs.Rounds.{CanGo, RoundsRan}
 use Rattle.dispatch.proofs.Going.{can-begin, made, can-go-on, gone}
 
