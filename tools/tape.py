@@ -13,15 +13,18 @@ The text has one command a line, with the names of documents 01 and 02:
   enter 0
   move 0
   withdraw 0
+  repeat 3                           (the lines up to its end, three times)
+  end
   bytes 7f 00
 
-Numbers are decimal. The temperature of `send`, command 21, is in tenths of a
-degree, that of `send hundredths`, command 25, in hundredths. In a quoted
-name \\" and \\\\ stand for quote and backslash. A name not of normal form (at
-most 32 bytes 20 to 7e, then zero fill) is shown as length byte and 32 cells.
-The last line may be `bytes`: all from the first byte that begins no command,
-being unknown or the start of a command that the tape's end cuts. Blank lines
-and comments from # to the line's end are allowed.
+Numbers are decimal. The temperature of `send` or `send tenths`, command 21, is
+in tenths of a degree, that of `send hundredths`, command 25, in hundredths. In
+a quoted name \\" and \\\\ stand for quote and backslash. A name not of normal
+form (at most 32 bytes 20 to 7e, then zero fill) is shown as length byte and 32
+cells. The last line may be `bytes`: all from the first byte that begins no
+command, being unknown or the start of a command that the tape's end cuts.
+Blank lines and comments from # to the line's end are allowed. The tape program
+runs at most 60,000 bytes (tools/run).
 """
 
 import argparse
@@ -31,7 +34,10 @@ import sys
 from typing import NamedTuple
 
 NAME_CELLS = 32
-RANGES = {"B": (0, 0xFF), "I": (0, 0xFFFF_FFFF), "h": (-0x8000, 0x7FFF)}
+RANGES = {"B": (0, 0xFF), "H": (0, 0xFFFF), "I": (0, 0xFFFF_FFFF),
+          "h": (-0x8000, 0x7FFF)}
+# What the tape program runs, and where a repeat stops that would fill the memory.
+LONGEST_TAPE, LONGEST_REPEAT = 60_000, 1_000_000
 
 # A quote that is never closed is one word up to the line's end, so that a #
 # in it is not taken for a comment and the message shows the name itself.
@@ -41,6 +47,42 @@ NUMBER = re.compile(r"-?[0-9]{1,10}")
 QUOTED = re.compile(r'"((?:[ !#-\[\]-~]|\\["\\]){0,%d})"' % NAME_CELLS)
 HEX_CELLS = re.compile(r"[0-9a-fA-F]{%d}" % (2 * NAME_CELLS))
 HEX_BYTE = re.compile(r"[0-9a-fA-F]{2}")
+# No byte of a text but in a comment; a tape that starts a ring has one, 12.
+CONTROL = re.compile(rb"[^\t\n\r -~\x80-\xff]")
+UTF_16 = (b"\xff\xfe", b"\xfe\xff")
+END = re.compile(r"end ([0-9]+) ([0-9]+)")
+LISTED = re.compile(r"([0-9]+) ([0-9a-f]{2}) ([0-9]+)(?: delivered (.*))?")
+DELIVERED = re.compile(r"([0-9]+) ([0-9]+) ([0-9]+) (-?[0-9]+) ([0-9]{1,2})(?: (.*))?")
+
+# What a command of a tape can be refused with, in a few words (docs/REFUSALS.md).
+REFUSALS = {
+    1: "the ring has already started",
+    2: "sixteen nodes stand already",
+    3: "the slots are not 1 to 64",
+    4: "sixty-four channels stand already",
+    5: "sender or receiver is not a node added so far",
+    6: "there is no node or no channel",
+    7: "all slots together are not more than the channels",
+    8: "the ring has not started",
+    9: "there is no such channel",
+    10: "the channel is not resting",
+    11: "the batch number is 0",
+    12: "the temperature is not -40 to 120 degrees",
+    13: "the name length is over 32",
+    14: "a byte of the name or of its fill is wrong",
+    15: "a record is already offered",
+    16: "there is no such node",
+    17: "the line is empty",
+    18: "no slot is free",
+    19: "the buffer is empty",
+    20: "the next node has no free slot",
+    21: "the next node's own line goes first",
+    22: "the command byte is unknown",
+    23: "the command is cut off",
+    27: "the channel is not asking",
+    28: "the request is in a buffer already",
+    30: "the name begins or ends with a blank",
+}
 
 
 class TextError(Exception):
@@ -86,6 +128,23 @@ class Number(NamedTuple):
             return int(words.pop(0))
         raise expected(f"{self.name} from {low} to {high}", words)
 
+    def say(self, value):
+        return str(value)
+
+
+class Temperature(Number):
+    """A temperature in units of which so many decimals make a degree."""
+
+    def __new__(cls, decimals):
+        self = super().__new__(cls, "temperature", "h", "temperature")
+        self.decimals = decimals
+        return self
+
+    def say(self, value):
+        digits = str(abs(value)).rjust(self.decimals + 1, "0")
+        sign = "-" if value < 0 else ""
+        return f"{sign}{digits[:-self.decimals]}.{digits[-self.decimals:]} degrees"
+
 
 class Name:
     """The length byte and the name cells, which the text shows as one."""
@@ -112,20 +171,31 @@ class Name:
         name = re.sub(r"\\(.)", r"\1", quoted).encode("ascii")
         return bytes([len(name)]) + name.ljust(NAME_CELLS, b"\0")
 
+    say = show
+
 
 class Command:
-    """A command byte, its name in the text and its operands in tape order."""
+    """A command byte, its names in the text, what it says and its operands in
+    tape order. The first name is that of the normal form."""
 
-    def __init__(self, byte, name, *operands):
-        self.byte, self.name, self.operands = byte, name, operands
+    def __init__(self, byte, names, meaning, *operands):
+        self.byte, self.operands = byte, operands
+        self.name, *self.other_names = names.split(" / ")
+        self.meaning = meaning
         # "<": low byte first and no gaps between the operands.
         self.layout = struct.Struct(
             "<B" + "".join(operand.format for operand in operands))
 
+    def operands_at(self, tape, place):
+        return zip(self.operands, self.layout.unpack_from(tape, place)[1:])
+
     def show(self, tape, place):
-        values = self.layout.unpack_from(tape, place)[1:]
-        shown = [o.show(value) for o, value in zip(self.operands, values)]
+        shown = [o.show(value) for o, value in self.operands_at(tape, place)]
         return " ".join([self.name, *shown])
+
+    def say(self, tape, place):
+        said = [o.say(value) for o, value in self.operands_at(tape, place)]
+        return self.meaning.format(*said)
 
     def take(self, words):
         values = [operand.take(words) for operand in self.operands]
@@ -133,42 +203,121 @@ class Command:
 
 
 CHANNEL, NODE = Number("channel", "B"), Number("node", "B")
-RECORD = (Number("batch number", "I", "batch"), Number("vessel", "B", "vessel"),
-          Number("temperature", "h", "temperature"), Name())
+TENTHS, HUNDREDTHS = Temperature(1), Temperature(2)
+SENDING = (CHANNEL, Number("batch number", "I", "batch"), Number("vessel", "B", "vessel"))
+OFFERS = "a record for channel {0}: batch {1}, vessel {2}, {3}, {4}"
 COMMANDS = [
-    Command(0x10, "add node", Number("slots", "B")),
-    Command(0x11, "add channel", Number("sender", "B"), Number("receiver", "B")),
-    Command(0x12, "start"),
-    Command(0x20, "receive", CHANNEL),
-    Command(0x21, "send", CHANNEL, *RECORD),
-    Command(0x22, "enter", NODE),
-    Command(0x23, "move", NODE),
-    Command(0x24, "withdraw", CHANNEL),
-    Command(0x25, "send hundredths", CHANNEL, *RECORD),
+    Command(0x10, "add node", "a node, its slots {0}", Number("slots", "B")),
+    Command(0x11, "add channel", "a channel from node {0} to node {1}",
+            Number("sender", "B"), Number("receiver", "B")),
+    Command(0x12, "start", "the plan is closed, the ring runs"),
+    Command(0x20, "receive", "channel {0} asks for a record", CHANNEL),
+    Command(0x21, "send / send tenths", OFFERS, *SENDING, TENTHS, Name()),
+    Command(0x22, "enter", "the first of node {0}'s line into its buffer", NODE),
+    Command(0x23, "move", "the first of node {0}'s buffer to the next node", NODE),
+    Command(0x24, "withdraw", "channel {0} takes its request back", CHANNEL),
+    Command(0x25, "send hundredths", OFFERS, *SENDING, HUNDREDTHS, Name()),
 ]
 BY_BYTE = {command.byte: command for command in COMMANDS}
+BY_NAME = {tuple(name.split()): command for command in COMMANDS
+           for name in (command.name, *command.other_names)}
+
+
+def commands_of(tape):
+    """The commands of any string of bytes, each with its place. The last is
+    None where the bytes from its place on begin no whole command."""
+    place = 0
+    while place < len(tape):
+        command = BY_BYTE.get(tape[place])
+        if command is None or len(tape) - place < command.layout.size:
+            yield None, place
+            return
+        yield command, place
+        place += command.layout.size
+
+
+def unread(tape):
+    """Where the first byte stands that begins no whole command, or None."""
+    places = (place for command, place in commands_of(tape) if command is None)
+    return next(places, None)
+
+
+def shown_at(tape, command, place):
+    """The line of a command, or that of the bytes which begin none."""
+    return command.show(tape, place) if command else "bytes " + tape[place:].hex(" ")
 
 
 def tape_to_text(tape):
     """The text, in normal form, of any string of bytes."""
-    lines, place = [], 0
-    while place < len(tape):
-        command = BY_BYTE.get(tape[place])
-        if command is None or len(tape) - place < command.layout.size:
-            lines.append("bytes " + tape[place:].hex(" "))
-            break
-        lines.append(command.show(tape, place))
-        place += command.layout.size
+    lines = [shown_at(tape, command, place) for command, place in commands_of(tape)]
     return "".join(line + "\n" for line in lines)
+
+
+def tape_with_meaning(tape, listing=None):
+    """The text with a comment beside each command: what it says and, with the
+    tape's listing, what was answered. It is text of the same tape."""
+    answers = Answers(listing) if listing is not None else None
+    lines = []
+    for number, (command, place) in enumerate(commands_of(tape), 1):
+        said = command.say(tape, place) if command else "begins no whole command"
+        if answers:
+            said += answers.to(number, tape[place])
+        lines.append(f"{shown_at(tape, command, place):<27} # {said}")
+    if answers:
+        lines.append(f"# {answers.end()}")
+    return "".join(line + "\n" for line in lines)
+
+
+class Answers:
+    """The answers of a listing in words, one after the other."""
+
+    def __init__(self, listing):
+        *lines, self.last = listing.splitlines() or [""]
+        if self.last != "too long" and not END.fullmatch(self.last):
+            raise TextError("this is no listing: its last line is neither end nor too long")
+        self.lines = iter(lines)
+
+    def to(self, number, byte):
+        """The next answer, which has to be to this command."""
+        if self.last == "too long":
+            return ""
+        line = next(self.lines, self.last)
+        match = LISTED.fullmatch(line)
+        if not match or (int(match[1]), int(match[2], 16)) != (number, byte):
+            wanted = f"{number} {byte:02x}"
+            raise TextError(f"the listing is of another tape: expected {wanted}, found {line!r}")
+        refusal = int(match[3])
+        if refusal:
+            return f": refused {refusal}, {REFUSALS.get(refusal, 'see docs/REFUSALS.md')}"
+        return ": accepted" + (delivered(match[4]) if match[4] else "")
+
+    def end(self):
+        """The last line, which has to be the next."""
+        if (line := next(self.lines, None)) is not None:
+            raise TextError(f"the listing is of another tape: expected its end, found {line!r}")
+        if match := END.fullmatch(self.last):
+            return f"{match[1]} accepted, {match[2]} refused"
+        return f"too long: none of it was run, a tape has at most {LONGEST_TAPE} bytes"
+
+
+def delivered(fields):
+    """A delivery of a listing in words."""
+    match = DELIVERED.fullmatch(fields)
+    if not match:
+        raise TextError(f"the listing has a delivery that is none: {fields!r}")
+    channel, batch, vessel, temperature, length, name = match.groups()
+    cells = (name or "").encode("ascii", "replace").ljust(NAME_CELLS, b"\0")
+    degrees, name = HUNDREDTHS.say(int(temperature)), Name().say(bytes([int(length)]) + cells)
+    return f", delivered on channel {channel}: batch {batch}, vessel {vessel}, {degrees}, {name}"
 
 
 def take_command(words):
     """Removes a command's name, of two words or one, and returns the command."""
     for length in (2, 1):  # `send hundredths` begins with `send`
-        for command in COMMANDS:
-            if words[:length] == command.name.split():
-                del words[:length]
-                return command
+        command = BY_NAME.get(tuple(words[:length]))
+        if command:
+            del words[:length]
+            return command
     names = ", ".join(command.name for command in COMMANDS)
     raise expected(f"one of {names} or bytes", [" ".join(words)])
 
@@ -181,31 +330,94 @@ def take_bytes(words):
     return bytes.fromhex("".join(digits))
 
 
-def line_to_tape(words):
-    """The tape bytes of one line's words."""
-    if words[0] == "bytes":
-        return take_bytes(words[1:])
-    piece = take_command(words).take(words)
-    if words:
-        raise expected("the end of the line", words)
-    return piece
+class Repeat:
+    """A repeat that is still open: its line, how often, and its bytes."""
+
+    times = Number("times", "H")
+
+    def __init__(self, line, words):
+        self.line, self.count, self.tape = line, self.times.take(words), bytearray()
+
+    def close(self):
+        if len(self.tape) * self.count > LONGEST_REPEAT:
+            raise TextError(f"the repeat of line {self.line} is over {LONGEST_REPEAT} bytes")
+        return self.tape * self.count
+
+
+class Writer:
+    """The tape of the lines so far, and the repeats that are open."""
+
+    def __init__(self):
+        self.tape, self.open, self.ended = bytearray(), [], False
+
+    def put(self, piece):
+        (self.open[-1].tape if self.open else self.tape).extend(piece)
+
+    def line(self, number, words):
+        if self.ended:
+            raise expected("nothing after the bytes line", words)
+        self.ended = words[0] == "bytes"
+        if words[0] in self.framing:
+            self.framing[words.pop(0)](self, number, words)
+        else:
+            self.put(take_command(words).take(words))
+        if words:
+            raise expected("the end of the line", words)
+
+    def take_rest(self, number, words):
+        self.put(take_bytes(words))
+
+    def take_repeat(self, number, words):
+        self.open.append(Repeat(number, words))
+
+    def take_end(self, number, words):
+        if not self.open:
+            raise TextError("this end has no repeat")
+        self.put(self.open.pop().close())
+
+    # The lines that are no commands.
+    framing = {"repeat": take_repeat, "end": take_end, "bytes": take_rest}
+
+    def close(self):
+        if self.open:
+            raise TextError(f"line {self.open[-1].line}: this repeat has no end")
+        return bytes(self.tape)
 
 
 def text_to_tape(text):
     """The tape of a text; a TextError tells the line and what was expected."""
-    tape, ended = bytearray(), False
+    writer = Writer()
     for number, line in enumerate(text.split("\n"), 1):
         words = [word for word in WORD.findall(line) if word[0] != "#"]
         if not words:
             continue
         try:
-            if ended:
-                raise expected("nothing after the bytes line", words)
-            ended = words[0] == "bytes"
-            tape += line_to_tape(words)
+            writer.line(number, words)
         except TextError as error:
             raise TextError(f"line {number}: {error}") from None
-    return bytes(tape)
+    return writer.close()
+
+
+def is_text(data):
+    """Whether bytes are text and no tape: they have no control byte."""
+    return data.startswith(UTF_16) or bool(data) and not CONTROL.search(data)
+
+
+def decoded(data):
+    """The characters of a text file, without a byte order mark."""
+    if data.startswith(UTF_16):
+        raise TextError("this text is UTF-16: save it as UTF-8")
+    # Comments may hold any bytes, so decoding must not fail.
+    return data.decode("utf-8-sig", "surrogateescape")
+
+
+def text_file_to_tape(data):
+    """The tape of a text file; an error says too if the file looks like a tape."""
+    try:
+        return text_to_tape(decoded(data))
+    except TextError as error:
+        hint = "" if is_text(data) else " (this has control bytes: is it a tape, and not text?)"
+        raise TextError(f"{error}{hint}") from None
 
 
 def open_file(path, mode, standard):
@@ -213,9 +425,39 @@ def open_file(path, mode, standard):
     return open(standard if path == "-" else path, mode, closefd=path != "-")
 
 
+class FileError(Exception):
+    """A file that cannot be read or written."""
+
+
+def read_file(path):
+    try:
+        with open_file(path, "rb", 0) as file:
+            return file.read()
+    except OSError as error:
+        raise FileError(f"{path}: {error.strerror}") from None
+
+
+def write_file(path, data):
+    try:
+        with open_file(path, "wb", 1) as file:
+            file.write(data)
+    except OSError as error:
+        raise FileError(f"{path}: {error.strerror}") from None
+
+
+class Parser(argparse.ArgumentParser):
+    """Wrong usage is told in one line."""
+
+    def __init__(self, **options):
+        super().__init__(formatter_class=argparse.RawDescriptionHelpFormatter, **options)
+
+    def error(self, message):
+        self.exit(2, f"{self.prog}: {message} ({self.prog} --help has the usage)\n")
+
+
 def parse_arguments(arguments):
-    parser = argparse.ArgumentParser(
-        description=__doc__, formatter_class=argparse.RawDescriptionHelpFormatter,
+    parser = Parser(
+        description=__doc__,
         epilog="Exit status: 0 done, 1 a file fails, 2 the text or usage is wrong.")
     actions = parser.add_subparsers(dest="action", required=True)
     write = actions.add_parser("write", help="text to tape")
@@ -225,26 +467,40 @@ def parse_arguments(arguments):
     read.add_argument("source", metavar="TAPE", help="- is standard input")
     read.add_argument("target", metavar="TEXT", nargs="?", default="-",
                       help="- or nothing is standard output")
+    read.add_argument("--with-meaning", action="store_true",
+                      help="beside each command, as a comment, what it says")
+    read.add_argument("--listing", metavar="LISTING",
+                      help="and what was answered, in words: the output of tools/run")
+    read.add_argument("--binary", action="store_true",
+                      help="the file is a tape: if it looks like text, that is not said")
     return parser.parse_args(arguments)
+
+
+def read_text(options):
+    """What `read` writes."""
+    tape = read_file(options.source)
+    if is_text(tape) and not options.binary:
+        print(f"{options.source}: this looks like text, and is read as a tape: "
+              "`write` makes a tape of a text", file=sys.stderr)
+    if options.listing:
+        listing = read_file(options.listing).decode("ascii", "replace")
+        return tape_with_meaning(tape, listing)
+    return tape_with_meaning(tape) if options.with_meaning else tape_to_text(tape)
 
 
 def main(arguments=None):
     options = parse_arguments(arguments)
     try:
-        with open_file(options.source, "rb", 0) as file:
-            data = file.read()
         # All is turned before the target is opened: an error writes nothing.
         if options.action == "read":
-            data = tape_to_text(data).encode("ascii")
+            data = read_text(options).encode("ascii", "replace")
         else:
-            # Comments may hold any bytes, so decoding must not fail.
-            data = text_to_tape(data.decode("utf-8", "surrogateescape"))
-        with open_file(options.target, "wb", 1) as file:
-            file.write(data)
+            data = text_file_to_tape(read_file(options.source))
+        write_file(options.target, data)
     except TextError as error:
         print(f"{options.source}: {error}", file=sys.stderr)
         return 2
-    except OSError as error:
+    except FileError as error:
         print(error, file=sys.stderr)
         return 1
     return 0

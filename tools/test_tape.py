@@ -12,7 +12,8 @@ from pathlib import Path
 
 HERE = Path(__file__).resolve().parent
 sys.path.insert(0, str(HERE))
-from tape import TextError, tape_to_text, text_to_tape  # noqa: E402
+from tape import (REFUSALS, TextError, decoded, is_text, tape_to_text,  # noqa: E402
+                  tape_with_meaning, text_to_tape, unread)
 
 # As printed in document 01, with the thirty 00 written out.
 LISTING_TAPE = bytes.fromhex(
@@ -217,6 +218,104 @@ class FreeText(unittest.TestCase):
                            (f"{SEND}length 2 cells 4A31{60 * '0'}\n", send(b"J1"))):
             self.assertEqual(text_to_tape(text), tape)
 
+    def test_send_with_its_unit(self):
+        text = f'{SEND}name "A1"'
+        self.assertEqual(text_to_tape(text.replace("send", "send tenths")), text_to_tape(text))
+
+    def test_repeat(self):
+        for text, tape in (
+                ("repeat 3\nmove 1\nend", 3 * b"\x23\1"),
+                ("start\nrepeat 2 # twice\n\nmove 1\nenter 2\nend\nstart", b"\x12\x23\1\x22\2\x23\1\x22\2\x12"),
+                ("repeat 2\nstart\nrepeat 3\nmove 0\nend\nend", 2 * (b"\x12" + 3 * b"\x23\0")),
+                ("repeat 0\nmove 1\nend", b""), ("repeat 9\nend", b""),
+                ("repeat 60000\nrepeat 8\nmove 0\nend\nend", 480_000 * b"\x23\0"),
+                ("repeat 2\nstart\nend\nbytes 7f", b"\x12\x12\x7f")):
+            self.assertEqual(text_to_tape(text), tape, text)
+
+    def test_repeat_that_does_not_fit_its_end(self):
+        for text, message in (
+                ("start\nrepeat 2\nmove 1\n", "line 2: this repeat has no end"),
+                ("repeat 2\nrepeat 3\nend\n", "line 1: this repeat has no end"),
+                ("start\nend\n", "line 2: this end has no repeat"),
+                ("repeat 60000\nrepeat 9\nmove 0\nend\nend",
+                 "line 5: the repeat of line 1 is over 1000000 bytes")):
+            with self.assertRaises(TextError, msg=text) as caught:
+                text_to_tape(text)
+            self.assertEqual(str(caught.exception), message)
+
+    def test_byte_order_marks(self):
+        self.assertEqual(text_to_tape(decoded(b"\xef\xbb\xbfstart\r\n")), b"\x12")
+        for name in ("utf-16-le", "utf-16-be"):
+            with self.assertRaisesRegex(TextError, "UTF-16: save it as UTF-8"):
+                decoded("\ufeffstart\n".encode(name))
+
+    def test_what_is_text(self):
+        for data in (b"start", b"# \xc3\xa9\tx\r\n", b"\xef\xbb\xbfstart", "\ufeffstart".encode("utf-16-le"),
+                     "\ufeffstart".encode("utf-16-be"), b"no command"):
+            self.assertTrue(is_text(data), data)
+        for data in (b"", b"\x12", LISTING_TAPE, b"start\x00", b"\x7f", b"\x20\x0b"):
+            self.assertFalse(is_text(data), data)
+
+
+class Meaning(unittest.TestCase):
+    """`read --with-meaning` and `--listing`."""
+
+    def comments(self, text):
+        return [line.split("# ", 1)[1] for line in text.splitlines()]
+
+    def test_every_command_says_its_operands(self):
+        tape = (b"\x10\x05\x11\x06\x07\x12\x20\x08\x22\x09\x23\x0a\x24\x0b"
+                + send(b"A1", channel=12) + send(b'"', channel=13, temperature=-5, byte=0x25) + b"\x7f")
+        self.assertEqual(self.comments(tape_with_meaning(tape)), [
+            "a node, its slots 5", "a channel from node 6 to node 7", "the plan is closed, the ring runs",
+            "channel 8 asks for a record", "the first of node 9's line into its buffer",
+            "the first of node 10's buffer to the next node", "channel 11 takes its request back",
+            'a record for channel 12: batch 7, vessel 3, 61.2 degrees, name "A1"',
+            r'a record for channel 13: batch 7, vessel 3, -0.05 degrees, name "\""', "begins no whole command"])
+
+    def test_answers_in_words(self):
+        said = self.comments(tape_with_meaning(LISTING_TAPE, LISTING_OUT))
+        self.assertEqual(said[5], "channel 0 asks for a record: refused 10, the channel is not resting")
+        self.assertEqual(said[7], "the first of node 0's buffer to the next node: accepted")
+        self.assertEqual(said[10], "the first of node 1's buffer to the next node: accepted, delivered on "
+                         'channel 0: batch 7, vessel 3, 61.20 degrees, name "A1"')
+        self.assertEqual(said[12], "10 accepted, 2 refused")
+        self.assertIn("begins no whole command: refused 22, the command byte is unknown",
+                      tape_with_meaning(b"\x12\x7f", "1 12 6\n2 7f 22\nend 0 2\n"))
+        self.assertIn("too long: none of it was run", tape_with_meaning(b"\x12", "too long\n"))
+
+    def test_it_is_text_of_the_same_tape(self):
+        rng = random.Random(1)
+        for _ in range(500):
+            tape = random_tape(rng) + rng.randbytes(rng.randrange(3))
+            self.assertEqual(text_to_tape(tape_with_meaning(tape)), tape)
+
+    def test_a_listing_of_another_tape(self):
+        for listing, message in (
+                ("", "this is no listing"), ("1 12 0\n", "this is no listing"),
+                ("end 0 0\n", "expected 1 12, found 'end 0 0'"),
+                ("1 10 0\nend 1 0\n", "expected 1 12, found '1 10 0'"),
+                ("2 12 0\nend 1 0\n", "expected 1 12, found '2 12 0'"),
+                ("1 12 0\n2 12 1\nend 1 1\n", "expected its end, found '2 12 1'")):
+            with self.assertRaisesRegex(TextError, message):
+                tape_with_meaning(b"\x12", listing)
+
+    def test_every_refusal_of_a_command_has_words(self):
+        page = (HERE.parent / "docs" / "REFUSALS.md").read_text(encoding="utf-8").split("## Order")[1]
+        commands = ("add node", "add channel", "start", "receive", "send", "enter", "move", "withdraw",
+                    "read a command")
+        rows = [line.split("|") for line in page.splitlines()
+                if line.startswith(tuple(f"| {command}" for command in commands))]
+        self.assertEqual(len(rows), len(commands))
+        orders = [re.sub(r"\(.*\)", "", row[2]) for row in rows]
+        told = {int(number) for order in orders for number in re.findall(r"\b\d+\b", order)}
+        # A tape is run on a fresh ring, and read from a place within it.
+        self.assertEqual(set(REFUSALS), told - {24, 25})
+
+    def test_where_reading_stops(self):
+        for tape, place in ((b"", None), (LISTING_TAPE, None), (b"\x12\x7f\x12", 1), (b"\x12\x23", 1)):
+            self.assertEqual(unread(tape), place)
+
 
 class Errors(unittest.TestCase):
     def test_messages(self):
@@ -255,6 +354,13 @@ class Errors(unittest.TestCase):
                  "temperature from -32768 to 32767", "'-32769'"),
                 (SEND.replace("612", "61.2"),
                  "temperature from -32768 to 32767", "'61.2'"),
+                ("send tenths", "channel from 0 to 255", None),
+                ("send 0 batch 7.5", "batch number from 0 to 4294967295", "'7.5'"),
+                ("repeat", "times from 0 to 65535", None),
+                ("repeat 65536", "times from 0 to 65535", "'65536'"),
+                ("repeat 2 3", "the end of the line", "'3'"),
+                ("repeat 2\nbytes 7f\nend", "nothing after the bytes line", "'end'"),
+                ("repeat 2\nend 2", "the end of the line", "'2'"),
                 (SEND, "name or length", None),
                 (SEND + '"A1"', "name or length", "'\"A1\"'"),
                 (SEND + "name", QUOTED, None),
@@ -338,6 +444,38 @@ class Program(unittest.TestCase):
         self.check_run(self.run_tool("turn", "-"), 2, b"")
         self.check_run(self.run_tool("write", "-"), 2, b"")
         self.check_run(self.run_tool("read", HERE / "no such tape"), 1, b"")
+
+    def test_what_is_wrong_is_told_in_one_line(self):
+        text = HERE / "tapes" / "listing.txt"
+        for arguments, status, says in (
+                ((), 2, "required"), (("turn", "-"), 2, "invalid choice"), (("write", "-"), 2, "TAPE"),
+                (("read", "--wrong", "-"), 2, "--wrong"), (("read", HERE), 1, f"{HERE}: Is a directory"),
+                (("write", text, HERE), 1, f"{HERE}: Is a directory"),
+                (("read", HERE / "none"), 1, f"{HERE / 'none'}: No such file"),
+                (("write", text.with_suffix(".tape"), "-"), 2, "is it a tape, and not text?"),
+                (("read", "--listing", HERE / "none", "-"), 1, "none: No such file"),
+                (("read", "--listing", text, "-"), 2, "this is no listing")):
+            run = self.run_tool(*arguments)
+            self.check_run(run, status, b"")
+            self.assertEqual(len(run.stderr.decode().splitlines()), 1, run.stderr)
+            self.assertIn(says, run.stderr.decode())
+
+    def test_read_with_meaning(self):
+        tape, listing = HERE / "tapes" / "turn.tape", HERE / "tapes" / "turn.out"
+        run = self.run_tool("read", "--listing", listing, tape)
+        self.assertIn(b"move 0                      # the first of node 0's buffer to the next node: "
+                      b"refused 21, the next node's own line goes first\n", run.stdout)
+        run = self.run_tool("read", "--with-meaning", tape)
+        self.assertIn(b"start                       # the plan is closed, the ring runs\n", run.stdout)
+        self.check_run(self.run_tool("write", "-", "-", given=b"\xef\xbb\xbfstart\r\n"), 0, b"\x12")
+
+    def test_tape_that_looks_like_text(self):
+        """It is read, and that it may be text is said."""
+        for options, says in (((), b"-: this looks like text, and is read as a tape"), (("--binary",), b"")):
+            run = self.run_tool("read", *options, "-", given=b"#A")
+            self.check_run(run, 0, b"move 65\n")
+            self.assertEqual(run.stderr[:len(says)], says)
+            self.assertEqual(len(run.stderr.splitlines()), len(says) > 0)
 
 
 class Tapes(unittest.TestCase):
