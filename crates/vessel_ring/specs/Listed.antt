@@ -1,5 +1,5 @@
 -- The listing of a tape in a lent buffer.
-use Rattle.std.specs.Prelude.{ℕ, ◌+◌, ◌<◌, ◌≤◌, ◌≡◌, List, [], ◌++◌, length, take, drop}
+use Rattle.std.specs.Prelude.{ℕ, ◌+◌, ◌≤◌, ◌≡◌, List, [], ◌++◌, length, take, drop}
 use Rattle.report.specs.Line.{line_room}
 use Rattle.runner.specs.Listing.{listing_of}
 

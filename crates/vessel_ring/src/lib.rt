@@ -1,13 +1,13 @@
-// The ring for firmware, as C functions: include/vessel_ring.h has their types for C and says how to use them, and `rt staticlib
-// vessel_ring` writes the library. The ring calls go on a ring that the caller keeps and lends by pointer, those of the history on a
+// The ring for firmware, as C functions: include/vessel_ring.h has their types for C and says how to use them, and `rt lib` in this
+// crate's folder writes the library. The ring calls go on a ring that the caller keeps and lends by pointer, those of the history on a
 // table likewise; beside them stand the reader and the writer of commands, the test for a sound ring and the listing of a tape. Every
 // function takes every value: no byte of a ring, a table, a record, a command or a tape is trusted, a refusal answers its number and leaves
 // everything as it was.
 //
 // An exported call makes a command or a question of its numbers, hands the ring on to `site`, and tells the reply in numbers. One more takes
-// its maker in `c_structs` and the function here, with a proof that names the three functions; where its answer has a value that no other
-// has, a field of `AnswerNumbers` of `c_structs` and of the struct that it answers; its prototype in the header, and its arm in tests/calls. One more
-// command of the tape takes nothing here: `commands` of `c_structs` reads the tape's own table.
+// its maker in `c_structs` and the function here; where its answer has a value that no other has, a field of `AnswerNumbers` of `c_structs`
+// and of the struct that it answers; its prototype in the header, and its arm in tests/calls. One more command of the tape takes nothing
+// here: `commands` of `c_structs` reads the tape's own table.
 #![tactic(auto)]
 
 ghost use Rattle.std.specs.Prelude.{◌≡◌};
@@ -240,6 +240,7 @@ pub extern "C" fn vessel_tape_write(bytes: &mut [u8], place: usize, command: Com
 
 // Runs a tape from a fresh ring and writes its listing from the beginning of `out`, as many whole lines as have room. Answers how many
 // bytes were written: all of the listing where `out` has room for one line (`report::LINE_ROOM`) more than that.
+#[tactic(auto, using(crate::proofs::Listings::listed))]
 #[unsafe(no_mangle)]
 pub extern "C" fn vessel_ring_list(tape: &[u8], out: &mut [u8]) -> usize
     ensures { Listed tape.now out.old out.new result }
