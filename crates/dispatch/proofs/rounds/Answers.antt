@@ -1,6 +1,5 @@
 -- What is left of the rounds comes to the same end from every turn of the loop.
 use Rattle.std.proofs.Common.{◌≡◌, ◌≤◌, refl, sym, ◌∙◌, true, arith}
-use Rattle.std.proofs.lemmas.Grind.{common_steps}
 use mathlib.Core.Logic.{◌⊎◌, ⊎_elim, inl, inr}
 use Rattle.dispatch.specs.Rounds.{none_moving}
 use Rattle.dispatch.proofs.Still.{channels-within, still-is}
@@ -23,6 +22,6 @@ returns c =
     let so_far = c.loop-made.invariant in
     let over : (c.args.given ≤ c.loop-made.made)
     ⊎ (none_moving c.loop-made.progress.head.phases c.loop-made.progress.head.channel_count ≡ true) =
-    grind (arith, common_steps) in
+    grind arith in
     ran-so _ _ _ c.requires refl
     (course-ends so_far (⊎_elim (λ spent. inl spent) (λ quiet. inr (sym (still-is _ so_far.can-go.ok) ∙ quiet)) over))
