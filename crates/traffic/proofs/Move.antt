@@ -40,7 +40,7 @@ use Rattle.updates.specs.Known.{CanRespond, Responded, AtNode, Leaves, Takes, De
 use Rattle.updates.proofs.Openings.{sound-called, accepts, accepted-fits, marked, unmarked}
 use Rattle.updates.proofs.FlatLaws.{first_cell, left-held, passed-held, phased-held, unoffered-held, handed-out-held}
 use Rattle.updates.proofs.Messages.{Answerable, can-respond, responded-held, response-made}
-use Rattle.updates.proofs.Reading.{node-known, node-there, node-numbers, node-running, empty-length, asking-code, none-flag}
+use Rattle.updates.proofs.Reading.{node-known, node-there, node-within, node-numbers, node-running, empty-length, asking-code, none-flag}
 
 module _ {ring : Ring} {p : ℕ} (h : AtNode ring p) where
   called : Calls.move (node_no p) (view ring) ≡ move_first (node_no p) (node (view ring) (node_no p)).buffer (view ring)
@@ -347,8 +347,9 @@ module _ {ring : Ring} {p q cell : ℕ} (t : Passes ring p q cell) where
   q-there : q < count_of_nodes (view ring)
   q-there = rw q-is (next-below (count_of_nodes (view ring)) p (node-there (at goes)))
 
-  pub pass-within : q < node_room
-  pass-within = omega (arith, q-there, (known goes).fits.nodes-fit)
+  -- both nodes of the move are there
+  pub nodes_within : (p < node_room) × (q < node_room)
+  nodes_within = (node-within (at goes), omega (arith, q-there, (known goes).fits.nodes-fit))
 
   arrives-passing : arrival (view ring) (next_node (view ring) (node_no p)) (channel_no (k goes)) ≡ passing
   unfolding arrival
@@ -361,7 +362,7 @@ module _ {ring : Ring} {p q cell : ℕ} (t : Passes ring p q cell) where
   passes = handed goes arrives-passing ∙ ap (λ r. hand_over (node_no p) (node_no r) (channel_no (k goes)) (ks goes) passing (view ring)) (sym q-is)
 
   next-numbers : HeldNode ring (view ring) q
-  next-numbers = (known goes).holds.nodes q pass-within
+  next-numbers = (known goes).holds.nodes q nodes_within.1
 
   pub pass-full : capacity_at ring.head q ≤ used_at ring.head q → call_ring (Runs.move (node_no p)) ring ≡ refused NextBufferFull
   pass-full full =
@@ -394,7 +395,7 @@ module _ {ring : Ring} {p q cell : ℕ} (t : Passes ring p q cell) where
     pass-room : used_at (left ring p).head q < row_length
     pass-room =
         subst (λ r. used_at r.head q < row_length) (sym (behind-held goes))
-        (rw (held-node (behind goes) q pass-within).used room)
+        (rw (held-node (behind goes) q nodes_within.1).used room)
 
     pass-done : mark_at ring.head q ≡ 0 → call_ring (Runs.move (node_no p)) ring ≡ accepted done (passed (left ring p) q cell)
     pass-done clear =
