@@ -13,6 +13,7 @@ pub const HISTORY_ROWS: usize = 128;
 pub const READINGS: usize = 24;
 
 pub const NOT_RESTING: u8 = 10;
+pub const NAME_TOO_LONG: u8 = 13;
 pub const UNSOUND_RING: u8 = 25;
 pub const BLANK_END: u8 = 30;
 
@@ -175,6 +176,17 @@ mod c {
     }
 }
 
+impl Record {
+    /// A record with this name; 13 where it is too long, which is never cut.
+    pub fn named(batch: u32, vessel: u8, temperature: i16, name: &str) -> Result<Record, u8> {
+        let mut record = Record { batch, vessel, temperature, ..Record::default() };
+        let cells = record.name.get_mut(..name.len()).ok_or(NAME_TOO_LONG)?;
+        cells.copy_from_slice(name.as_bytes());
+        record.name_length = name.len() as u8;
+        Ok(record)
+    }
+}
+
 impl Ring {
     pub fn fresh() -> Ring {
         unsafe { c::vessel_ring_fresh() }
@@ -224,6 +236,16 @@ impl Ring {
 
     pub fn dispatch(&mut self, rounds: u16) -> Dispatched {
         unsafe { c::vessel_ring_dispatch(self, rounds) }
+    }
+
+    /// So many rounds that nothing is left on a sound ring: c × (2n + 2).
+    pub fn rounds_enough(&self) -> u16 {
+        u16::from(self.channel_count) * (2 * u16::from(self.node_count) + 2)
+    }
+
+    /// How many channels are asking or answering: 0 where nothing is left to dispatch.
+    pub fn under_way(&self) -> usize {
+        self.phases.iter().filter(|phase| matches!(phase, 1 | 3)).count()
     }
 
     pub fn withdraw(&mut self, channel: u8) -> u8 {

@@ -52,7 +52,7 @@ impl Listing {
     /// Entries and moves in one call: it runs the ring until nothing is on it, and hands over all that was delivered. c × (2n + 2) rounds
     /// are always enough; a controller that has other work to do gives fewer, and calls again later.
     fn dispatch(&mut self, ring: &mut Ring) {
-        let enough = u16::from(ring.channel_count) * (2 * u16::from(ring.node_count) + 2);
+        let enough = ring.rounds_enough();
         let answer = ring.dispatch(enough);
         println!("dispatched {}: {} of {enough} rounds, {} delivery", answer.refusal, answer.rounds, answer.count);
         for (channel, record) in answer.deliveries() {
@@ -144,9 +144,7 @@ fn taped() {
 }
 
 fn main() {
-    let mut name = [0; 32];
-    name[..2].copy_from_slice(b"A1");
-    let record = Record { batch: 7, vessel: 3, temperature: 612, name_length: 2, name }; // tenths, as on the tape of document 01
+    let record = Record::named(7, 3, 612, "A1").expect("a name of two bytes"); // tenths, as on the tape of document 01
 
     let mut ring = Ring::fresh();
     let mut listing = Listing::new();
@@ -166,6 +164,7 @@ fn main() {
     ring.send(0, Record { temperature: 6345, ..record }); // hundredths
     ring.receive(0);
     listing.dispatch(&mut ring);
+    assert_eq!(ring.under_way(), 0);
     damaged(&ring);
     damaged_history(&listing.history);
     taped();
