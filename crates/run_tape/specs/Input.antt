@@ -1,8 +1,13 @@
--- A tape that was read into a buffer lies within it.
-use Rattle.std.specs.Prelude.{ℕ, ◌≤◌, List, length}
+-- A tape that was read into a buffer lies within it, and is the front of the input: all of it, or as much as the buffer holds.
+use Rattle.std.specs.Prelude.{ℕ, ◌≤◌, ◌≡◌, List, Option, IfSome, length, take}
 use Rattle.run_tape.specs.declared.console.Input.{Input}
 use Rattle.run_tape.specs.declared.console.Input.TheVariants.{Tape, Failed}
 
 abbrev pub Within : Input → List ℕ → Type 0
 Within (Tape len) buffer = len ≤ length buffer
-Within Failed buffer = Unit {0}
+Within (Failed error) buffer = Unit {0}
+
+-- the bytes that the input had left are known or not; where they are, this many of them stand in the buffer
+abbrev pub IsFront : Option (List ℕ) → Input → List ℕ → Type 0
+IsFront left (Tape len) buffer = IfSome left (λ bytes. take len buffer ≡ take (length buffer) bytes)
+IsFront left (Failed error) buffer = Unit {0}

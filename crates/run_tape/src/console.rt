@@ -1,63 +1,79 @@
-// The tape program's input and output: takes a tape from standard input and prints its listing on standard output. What is printed is
-// all `runner`'s: it runs the tape into a buffer until the run is over, and what each run left there is written out.
-ghost use Rattle.run_tape.specs.Input.{Within};
+// The tape program's input and output: takes a tape from a reader and prints its listing to a writer. What is printed is all `runner`'s: it
+// runs the tape into a buffer until the run is over, and what each run left there is written out.
+ghost use Rattle.std.specs.Prelude.{IfSome, OnOk};
+ghost use Rattle.std.specs.Io.KnownBytes.{Appends};
+ghost use Rattle.runner.specs.Listing.{listing_of};
+ghost use Rattle.run_tape.specs.Input.{Within, IsFront};
 
-use libc::{STDIN_FILENO, STDOUT_FILENO};
 use runner::Session;
+use std::io::{Read, Write};
+use std::{fmt, io};
 
 // How long the tape in the buffer is, or that a read failed.
 #[derive(Clone, Copy)]
 pub enum Input {
     Tape { len: usize },
-    Failed,
+    Failed { error: io::Error },
+}
+
+// What failed.
+#[derive(Clone, Copy)]
+pub enum Failure {
+    Reading(io::Error),
+    Writing(io::Error),
+}
+
+impl fmt::Display for Failure {
+    fn fmt<W: fmt::Write>(&self, f: &mut fmt::Formatter<W>) -> fmt::Result {
+        match self {
+            Failure::Reading(error) => write!(f, "standard input: {error}"),
+            Failure::Writing(error) => write!(f, "standard output: {error}"),
+        }
+    }
 }
 
 // Reads until the input ends, in as many pieces as it comes, or the buffer is full.
-pub fn read_tape(tape: &mut [u8]) -> Input
-    ensures { Within result tape.new }
+pub fn read_tape<R: Read>(input: &mut R, tape: &mut [u8]) -> Input
+    ensures within { Within result tape.new }
+    ensures front { IsFront (R.remaining input.old) result tape.new }
 {
     let mut len = 0;
     while len < tape.len() {
-        let rest = &mut tape[len..];
-        let got = libc::read(STDIN_FILENO, rest);
-        let count = io::count(got, rest);
-        if count == 0 {
-            if got < 0 {
-                return Input::Failed;
-            }
-            break;
+        match input.read(&mut tape[len..]) {
+            Ok(0) => break,
+            Ok(count) => len += count,
+            Err(error) => return Input::Failed { error },
         }
-        len += count;
     }
     Input::Tape { len }
 }
 
-// Prints the listing of a tape. Answers whether all of it could be written.
-pub fn print_listing(tape: &[u8]) -> bool {
-    let mut out = io::large_buffer();
+// Prints the listing of a tape.
+pub fn print_listing<W: Write>(tape: &[u8], output: &mut W) -> io::Result<()>
+    ensures { OnOk result (Appends (W.contents output.old) (W.contents output.new) (listing_of tape.now)) }
+{
+    let mut out = [0u8; 65536];
     let mut session = Session::begin();
     while !session.over {
         let progress = runner::run(tape, session, &mut out);
         let written = progress.written;
-        if !io::write_all(STDOUT_FILENO, &out[..written]) {
-            return false;
-        }
+        output.write_all(&out[..written])?;
         session = progress.session;
     }
-    true
+    Ok(())
 }
 
-// Prints the listing of the tape on standard input, or says on standard error what failed.
-pub fn list_input() {
+// Prints the listing of the tape that the input holds.
+pub fn list_input<R: Read, W: Write>(input: &mut R, output: &mut W) -> Result<(), Failure>
+    ensures { OnOk result (IfSome (R.remaining input.old) (λ tape. Appends (W.contents output.old) (W.contents output.new) (listing_of tape))) }
+{
     // One byte more than the longest tape: with it the tape is too long, whatever follows.
     let mut tape = [0u8; runner::LONGEST_TAPE + 1];
-    let input = read_tape(&mut tape);
-    match input {
-        Input::Tape { len } => {
-            if !print_listing(&tape[..len]) {
-                os::fail(b"standard output");
-            }
-        }
-        Input::Failed => os::fail(b"standard input"),
+    match read_tape(input, &mut tape) {
+        Input::Tape { len } => match print_listing(&tape[..len], output) {
+            Ok(()) => Ok(()),
+            Err(error) => Err(Failure::Writing(error)),
+        },
+        Input::Failed { error } => Err(Failure::Reading(error)),
     }
 }

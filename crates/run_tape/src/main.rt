@@ -4,6 +4,15 @@
 
 mod console;
 
-fn main() {
-    console::list_input();
+use std::process::ExitCode;
+
+// A failed read or write is said on standard error in one line, and gives the status 1.
+fn main(rt: HostRuntime) -> ExitCode {
+    match console::list_input(&mut rt.stdin(), &mut rt.stdout()) {
+        Ok(()) => ExitCode::SUCCESS,
+        Err(failure) => {
+            eprintln!(rt; "{failure}").ok();
+            ExitCode::FAILURE
+        }
+    }
 }

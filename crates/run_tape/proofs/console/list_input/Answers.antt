@@ -1,0 +1,6 @@
+use Rattle.std.proofs.Common.{arith}
+use Rattle.run_tape.proofs.Printed.{all-listed}
+use Rattle.run_tape.proofs.console.list_input.Goals as goal
+
+pub returns-in-Ok : goal.returns-in-Ok
+returns-in-Ok g c = all-listed _ _ _ _ _ c.in-Tape.ensures.front (omega arith) c.in-Ok.ensures
