@@ -218,7 +218,7 @@ class OtherCheckout(CopyTest):
 class Usage(ToolTest):
     """Every tool has help, and says of a wrong use what is wrong, in one line."""
 
-    ALL = ("tools/run", "tools/tape.py", "tools/library", "examples/run", "bench/run", ".ci/run")
+    ALL = ("tools/run", "tools/tape.py", "tools/library", "tools/stack.py", "examples/run", "bench/run", ".ci/run")
 
     def test_help(self):
         for tool in self.ALL:
