@@ -94,7 +94,7 @@ def build():
 
 
 def listing_of(tape):
-    """What the tape program prints. It ends with 0 whatever befalls it: that it failed is seen by what it prints."""
+    """What the tape program prints. That it failed is seen by its status, and besides by what it prints."""
     read = tape[:LONGEST_TAPE + 1]  # it reads no further
     try:
         done = subprocess.run([PROGRAM], input=read, capture_output=True, check=False)
