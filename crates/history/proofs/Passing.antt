@@ -24,11 +24,12 @@ use Rattle.numbers.proofs.Splits.{by-test}
 use Rattle.lent.specs.Slices.{fold_rows}
 use Rattle.history.specs.declared.Decision.{Decision}
 use Rattle.history.specs.declared.Figures.TheVariants.{Refused as NotAnswered}
+use Rattle.history.specs.declared.InRow.TheVariants as row
 use Rattle.history.specs.declared.Row.{Row}
 use Rattle.history.specs.declared.Search.{Search}
 use Rattle.history.specs.Table.{row_limit, empty_row, sound_row, count_good, batches_in, place_of, holds, none_twice, sound_table, has_row, has_empty, readings_of, readings_in}
-use Rattle.history.specs.History.{Result, note, close, figures, refused, done, judged, with_reading, without_row, figures_of}
-use Rattle.history.specs.Search.{begin_at, seen_at, sound_search, no_row, unchanged, decide, row_in, note_good, to_note, to_close, to_tell}
+use Rattle.history.specs.History.{Result, note, close, figures, refused, done, judged, with_reading, without_row, figures_of, batch_or_none, batch_in}
+use Rattle.history.specs.Search.{begin_at, seen_at, sound_search, no_row, unchanged, decide, row_in, note_good, to_note, to_close, to_tell, to_list}
 use Rattle.history.proofs.Rewritten.{holds-cons, absent-first, absent-rest, once-absent, first-once, rest-once}
 
 -- the pass from row i on
@@ -166,7 +167,7 @@ module _ (b : BatchNo) (t : List Row) where
       ap readings_of (last_for-absent t b.0 empty_row absent)
       ∙ sym (ap known (ap (λ k. not k && holds b.0 bs) nz ∙ absent))))
 
--- ---- the three calls
+-- ---- the calls
 -- what is decided, done to the table, is the table after a call and its answer
 abbrev pub Does : Decision → List Row → Result → Type 0
 Does d t n = (set t d.at d.row ≡ n.table) × (d.answer ≡ n.verdict)
@@ -242,3 +243,10 @@ unfolding figures
 tell-passed b t =
     ap (λ k. unless k (NotAnswered UnsoundRing) (figures_of (readings_of (pass b t).found))) (sound-pass b t)
     ∙ by-test (sound_table t) (λ e. rw e (ap figures_of (readings-passed b t e))) (λ e. rw e)
+
+pub list-passed : (i : ℕ) (t : List Row) → to_list (pass (record { 0 = 0 }) t) i ≡ batch_in i t
+unfolding batch_in
+list-passed i t =
+    let none : BatchNo = record { 0 = 0 } in
+    ap (λ k. unless k (row.Refused UnsoundRing) (batch_or_none (get_or (pass none t).batches i 0))) (sound-pass none t)
+    ∙ by-test (sound_table t) (λ e. rw (e, all-batches none t (clauses t e).all_there)) (λ e. rw e)

@@ -8,7 +8,7 @@ use Prim.Native.Nat.{ℕ, zero, suc, ◌+◌, ◌-◌, ◌<◌, ◌≤◌}
 use native.Mathlib.Omega.{arith}
 use lib.Dec.{eqb, ltb, leb}
 use lib.IntN.{ℤ, pos}
-use lib.ListN.{length, get_or, take, drop, set, replicate, length-set, length-map, length-append, length-drop}
+use lib.ListN.{length, get_or, take, drop, set, replicate, length-set, length-map, length-append, length-take, length-drop}
 use lib.Seq.{get_or-set_same, get_or-set_other, set-get_or, take-append_seam, drop-append_seam, drop-append-le, drop-drop}
 use borrow.Author.Tests.{eq-eqb, ne_eqb, le-leb, lt-ltb, leb-true, leb-false, ltb-true, ltb-false, eqb-true, eqb-false}
 use Rattle.refusal.specs.declared.Refusal.{Refusal}
@@ -22,7 +22,7 @@ use Rattle.numbers.proofs.Splits.{by-test}
 use Rattle.history.specs.declared.Row.{Row}
 use Rattle.history.specs.Table.{row_limit, reading_limit, row_with, empty_row, empty_table, is_nought, count_good, sound_row, batches_in, place_of, holds, none_twice, sound_table, has_row, row_of, has_empty, readings_of, readings_in}
 use Rattle.history.specs.History.{Result, note, close, figures, refused, done, judged, last_of, joined, home, figures_of}
-use Rattle.history.specs.Runs.{Call, noting, closing, made, table_after, accepts, accepted, batch_of, StaysSound, LastReadings, FiguresAfresh, OneRow, OthersUntouched}
+use Rattle.history.specs.Runs.{Call, noting, closing, made, table_after, accepts, accepted, last_readings, batch_of, row_for, StaysSound, LastReadings, FiguresAfresh, FromSound, FromEmpty, OneRow, ItsRow, OthersUntouched}
 use Rattle.history.proofs.Rewritten.{place_at, place_set, place_other, twice-set, gone}
 use Rattle.history.proofs.Passing.{Sound, clauses, together}
 
@@ -174,6 +174,12 @@ homed b t nz is room =
       once = twice-set bs (place_of 0 bs) b (λ _. absent) is.one-each;
     }))
 
+-- the row of a batch is in the table
+in_table : (b : ℕ) (t : List Row) → has_row b t ≡ true → row_of b t < length t
+in_table b t has =
+    subst (λ n. row_of b t < n) (length-map t _)
+    (ltb-true (row_of b t) (length (batches_in t)) ((and-eq-true_iff (not (is_zero b)) (holds b (batches_in t))).0 has).1)
+
 -- batch number 0 has no readings
 zero-none : (b : ℕ) (t : List Row) → is_zero b ≡ true → readings_in b t ≡ []
 zero-none b t z = ap (λ k. cond (not k && holds b (batches_in t)) (readings_of (get_or t (row_of b t) empty_row)) []) z
@@ -223,11 +229,6 @@ module _ (x : BatchRecord) (t : List Row) (sound : sound_table t ≡ true) (good
   goes : Home c t (home c t)
   goes = homed c t nonzero is room
 
-  in_table : has_row c t ≡ true → row_of c t < length t
-  in_table h =
-      let held : holds c (batches_in t) ≡ true = sym (ap (λ z. not z && holds c (batches_in t)) (ne_eqb c 0 nonzero)) ∙ h in
-      subst (λ n. row_of c t < n) (length-map t _) (ltb-true (row_of c t) (length (batches_in t)) held)
-
   -- its batch has one reading more
   noted-own : readings_in c (noted x t) ≡ xs x t
   noted-own =
@@ -256,7 +257,7 @@ module _ (x : BatchRecord) (t : List Row) (sound : sound_table t ≡ true) (good
       every_drop in_range (length all - reading_limit) all
       (every-snoc in_range (readings_in c t) x.temperature
       (by-test (has_row c t)
-      (λ h. rw h (mild-readings (get_or t (row_of c t) empty_row) (every-at sound_row t (row_of c t) empty_row (in_table h) is.rows-good)))
+      (λ h. rw h (mild-readings (get_or t (row_of c t) empty_row) (every-at sound_row t (row_of c t) empty_row (in_table c t h) is.rows-good)))
       (λ h. rw h))
       (sym (temp-tested x) ∙ (good-clauses x ((good-exactly x).1 good)).degrees))
 
@@ -381,17 +382,60 @@ pub figures-afresh : FiguresAfresh
 unfolding figures
 figures-afresh calls k = rw (stays-sound calls) (ap figures_of (last-readings calls k))
 
+-- a sound row, and so a batch on a sound table, has at most 24 readings
+few-readings : (r : Row) → sound_row r ≡ true → r.count ≤ reading_limit
+unfolding sound_row
+few-readings r sound =
+    let counted : count_good r.batch.0 r.count ≡ true = ((and-eq-true_iff (count_good r.batch.0 r.count) _).0 sound).0 in
+    by-test (is_zero r.batch.0)
+    (λ z. omega (arith, eqb-true r.count 0 (rw z at counted)))
+    (λ nz. leb-true r.count reading_limit ((and-eq-true_iff (leb 1 r.count) _).0 (rw nz at counted)).1)
+
+few-in : (k : ℕ) (t : List Row) → sound_table t ≡ true → length (readings_in k t) ≤ reading_limit
+few-in k t sound =
+    by-test (has_row k t)
+    (λ has.
+    let r : Row = get_or t (row_of k t) empty_row in
+    let good : sound_row r ≡ true = every-at sound_row t (row_of k t) empty_row (in_table k t has) (clauses t sound).rows-good in
+    rw has (omega (arith, few-readings r good, length-take r.count r.readings)))
+    (λ none. rw none (omega arith))
+
+last-from : (t : List Row) → sound_table t ≡ true → (calls : List Call) (k : ℕ) → readings_in k (table_after calls t) ≡ last_readings k calls t
+last-from t sound calls k =
+    readings-after calls k t (readings_in k t) (sym (last-few reading_limit (readings_in k t) (few-in k t sound)))
+
+figures-from :
+    (t : List Row) → sound_table t ≡ true → (calls : List Call) (k : ℕ) → figures k (table_after calls t) ≡ figures_of (last_readings k calls t)
+unfolding figures
+figures-from t sound calls k = rw (sound-after calls t sound) (ap figures_of (last-from t sound calls k))
+
+pub from_sound : FromSound
+from_sound = record { stays-sound = λ t sound calls. sound-after calls t sound; last-readings = last-from; figures-afresh = figures-from }
+
+pub from_empty : FromEmpty
+from_empty =
+    record {
+      is-sound = empty-sound;
+      no-readings = no-readings;
+      accepted-alone = λ calls k. ap (λ xs. last_of reading_limit (accepted k calls empty_table xs)) (no-readings k);
+    }
+
 pub others-untouched : OthersUntouched
 others-untouched = others
 
+other-rows-stay : (a : Call) (t : List Row) (j : ℕ) → j ≢ row_for a t → get_or (made a t).table j empty_row ≡ get_or t j empty_row
+other-rows-stay (noting x) t j other =
+    note-by x t (λ n. get_or n.table j empty_row ≡ get_or t j empty_row) (λ r. refl) (λ _ _ _. get_or-set_other t (home x.batch.0 t) j _ empty_row other)
+other-rows-stay (closing d) t j other =
+    close-by d t (λ n. get_or n.table j empty_row ≡ get_or t j empty_row) refl (λ _ _. get_or-set_other t (row_of d t) j empty_row empty_row other) (λ _ _. refl)
+
 pub one-row : OneRow
-one-row (noting x) t = (
-  home x.batch.0 t,
-  λ j other.
-      note-by x t (λ n. get_or n.table j empty_row ≡ get_or t j empty_row) (λ r. refl) (λ _ _ _. get_or-set_other t (home x.batch.0 t) j _ empty_row other),
-)
-one-row (closing d) t = (
-  row_of d t,
-  λ j other.
-      close-by d t (λ n. get_or n.table j empty_row ≡ get_or t j empty_row) refl (λ _ _. get_or-set_other t (row_of d t) j empty_row empty_row other) (λ _ _. refl),
-)
+one-row a t = (row_for a t, other-rows-stay a t)
+
+as-many-rows : (a : Call) (t : List Row) → length (made a t).table ≡ length t
+as-many-rows (noting x) t = note-by x t (λ n. length n.table ≡ length t) (λ r. refl) (λ _ _ _. length-set t (home x.batch.0 t) _)
+as-many-rows (closing d) t =
+    close-by d t (λ n. length n.table ≡ length t) refl (λ _ _. length-set t (row_of d t) empty_row) (λ _ _. refl)
+
+pub its-row : ItsRow
+its-row = record { as_many = as-many-rows; other-rows = other-rows-stay }

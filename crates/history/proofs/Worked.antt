@@ -11,9 +11,9 @@ use Rattle.refusal.specs.Number.{verdict_number}
 use Rattle.batch.specs.Good.{verdict_of, batch_good, temp_good, name_length_good, name_good, widths_good, name_cells_good}
 use Rattle.history.specs.declared.Row.{Row}
 use Rattle.history.specs.Table.{empty_row, empty_table, sound_table, sound_row}
-use Rattle.history.specs.History.{Result, refused, note, close, figures, done}
+use Rattle.history.specs.History.{Result, refused, note, close, figures, done, batch_in}
 use Rattle.history.specs.Runs.{Call, noting, closing, made, table_after}
-use Rattle.history.specs.Examples.{reading, after, verdicts, row, tells, hot, OneReading, OldestGoes, FiguresFollow, ZerosCount, ThousandsNoted, RangeEdges, Closed, NoRow, FullTable, RecordFirst, Says25, UnsoundTables}
+use Rattle.history.specs.Examples.{reading, after, verdicts, row, tells, hot, OneReading, OldestGoes, FiguresFollow, ZerosCount, ThousandsNoted, RangeEdges, Closed, NoRow, FullTable, RecordFirst, RowsTold, Says25, UnsoundTables, LookedUp25, UnsoundLookedUp}
 
 pub one-reading : OneReading
 unfolding sound_table sound_row note close figures verdict_of batch_good temp_good name_length_good name_good widths_good name_cells_good
@@ -64,6 +64,10 @@ pub record-first : RecordFirst
 unfolding sound_table sound_row note close figures verdict_of batch_good temp_good name_length_good name_good widths_good name_cells_good
 record-first = record { answered = refl; as_before = refl }
 
+pub rows_told : RowsTold
+unfolding sound_table sound_row note close batch_in verdict_of batch_good temp_good name_length_good name_good widths_good name_cells_good
+rows_told = record { emptied = refl; in_use = refl; last = refl; past-the-last = refl }
+
 -- a table that is not sound
 module _ {t : List Row} (bad : sound_table t ≡ false) where
   called-25 : (a : Call) → made a t ≡ refused UnsoundRing t
@@ -74,6 +78,10 @@ module _ {t : List Row} (bad : sound_table t ≡ false) where
   says-25 : Says25 t
   unfolding figures
   says-25 = record { called = called-25; asked = λ b. rw bad refl }
+
+  looked-up-25 : LookedUp25 t
+  unfolding batch_in
+  looked-up-25 = record { told = λ i. rw bad refl }
 
 pub unsound-tables : UnsoundTables
 unfolding sound_table sound_row note close figures verdict_of batch_good temp_good name_length_good name_good widths_good name_cells_good
@@ -100,6 +108,29 @@ unsound-tables =
       rows-127 = says-25 refl;
       rows-129 = says-25 refl;
       rows_none = says-25 refl;
+    }
+
+pub unsound-looked-up : UnsoundLookedUp
+unfolding sound_table sound_row
+unsound-looked-up =
+    record {
+      no-readings = looked-up-25 refl;
+      reading-of-none = looked-up-25 refl;
+      count-of-none = looked-up-25 refl;
+      row-of-zero = looked-up-25 refl;
+      too_many = looked-up-25 refl;
+      after-the-last = looked-up-25 refl;
+      in-the-last-cell = looked-up-25 refl;
+      too-hot = looked-up-25 refl;
+      last-too-hot = looked-up-25 refl;
+      too-cold = looked-up-25 refl;
+      two-rows = looked-up-25 refl;
+      first-and-last = looked-up-25 refl;
+      first-bad = looked-up-25 refl;
+      last-bad = looked-up-25 refl;
+      rows-127 = looked-up-25 refl;
+      rows-129 = looked-up-25 refl;
+      rows_none = looked-up-25 refl;
     }
 
 -- ---- thousands of readings

@@ -6,9 +6,10 @@ use Rattle.refusal.specs.Number.{verdict_number}
 use Rattle.batch.specs.Good.{record_of}
 use Rattle.history.specs.declared.Figures.{Figures}
 use Rattle.history.specs.declared.Figures.TheVariants.{None, Of, Refused as NotAnswered}
+use Rattle.history.specs.declared.InRow.TheVariants as stands
 use Rattle.history.specs.declared.Row.{Row}
 use Rattle.history.specs.Table.{empty_row, empty_table}
-use Rattle.history.specs.History.{refused, figures}
+use Rattle.history.specs.History.{refused, figures, batch_in}
 use Rattle.history.specs.Runs.{Call, noting, closing, made, table_after}
 
 -- ---- what the lists are made of
@@ -182,6 +183,13 @@ pub record BlankEndsNoted : Type 0 where
   pub answered : verdicts blank_ended empty_table ≡ 0 ∷ 0 ∷ []
   pub taken : row_at 0 (after blank_ended) ≡ row 7 2 (pos 612 ∷ pos 613 ∷ zeros 22)
 
+-- the batch of each row, and none of a row that is empty or that no table has
+pub record RowsTold : Type 0 where
+  pub emptied : batch_in 0 (after first_closed) ≡ stands.None
+  pub in_use : batch_in 1 (after first_closed) ≡ stands.Batch (record { 0 = 8 })
+  pub last : batch_in 127 full ≡ stands.Batch (record { 0 = 128 })
+  pub past-the-last : batch_in 128 full ≡ stands.None
+
 -- ---- unsound tables: every call is refused with 25 and changes nothing, also where the record is bad or the batch has no row
 pub record Says25 (t : List Row) : Type 0 where
   pub called : (a : Call) → made a t ≡ refused UnsoundRing t
@@ -220,3 +228,26 @@ pub record UnsoundTables : Type 0 where
   pub rows-127 : Says25 (replicate 127 empty_row)
   pub rows-129 : Says25 (replicate 129 empty_row)
   pub rows_none : Says25 []
+
+-- and no batch of a row is told in them, whichever row is asked for
+pub record LookedUp25 (t : List Row) : Type 0 where
+  pub told : (i : ℕ) → batch_in i t ≡ stands.Refused UnsoundRing
+
+pub record UnsoundLookedUp : Type 0 where
+  pub no-readings : LookedUp25 (with3 (row 7 0 (zeros 24)))
+  pub reading-of-none : LookedUp25 (with3 (row 0 0 (pos 5 ∷ zeros 23)))
+  pub count-of-none : LookedUp25 (with3 (row 0 1 (zeros 24)))
+  pub row-of-zero : LookedUp25 (with3 (row 0 1 (pos 5 ∷ zeros 23)))
+  pub too_many : LookedUp25 (with3 (row 7 25 (map pos (from 1 24))))
+  pub after-the-last : LookedUp25 (with3 (row 7 1 (pos 1 ∷ pos 1 ∷ zeros 22)))
+  pub in-the-last-cell : LookedUp25 (with3 (row 7 1 (zeros 23 ++ pos 1 ∷ [])))
+  pub too-hot : LookedUp25 (with3 (row 7 1 (pos 12001 ∷ zeros 23)))
+  pub last-too-hot : LookedUp25 (with3 (row 7 24 (map pos (from 1 23) ++ pos 12001 ∷ [])))
+  pub too-cold : LookedUp25 (with3 (row 7 1 (neg_ℤ (pos 4001) ∷ zeros 23)))
+  pub two-rows : LookedUp25 (set (with3 one) 90 one)
+  pub first-and-last : LookedUp25 (set (set empty_table 0 one) 127 one)
+  pub first-bad : LookedUp25 (set full 0 (row 1 0 (zeros 24)))
+  pub last-bad : LookedUp25 (set full 127 (row 128 0 (zeros 24)))
+  pub rows-127 : LookedUp25 (replicate 127 empty_row)
+  pub rows-129 : LookedUp25 (replicate 129 empty_row)
+  pub rows_none : LookedUp25 []

@@ -1,7 +1,7 @@
--- The three calls on a history table, as document 02 has them: a record is noted, a batch is closed, the figures of a batch are asked for.
--- Each judges the table first (25); a record is then judged as a ring judges those that it holds (11 to 14, and not 30, which is send's
--- alone), and 29 comes last.
-use Rattle.std.specs.Prelude.{ℕ, ◌-◌, cond, ◌||◌, List, [], ◌∷◌, ◌++◌, ℤ, ◌+ℤ◌, length, drop, set}
+-- The calls on a history table, as document 02 has them: a record is noted, a batch is closed, the figures of a batch are asked for; and which
+-- batch a row is of. Each judges the table first (25); a record is then judged as a ring judges those that it holds (11 to 14, and not 30,
+-- which is send's alone), and 29 comes last.
+use Rattle.std.specs.Prelude.{ℕ, ◌-◌, cond, ◌||◌, List, [], ◌∷◌, ◌++◌, eqb, ℤ, ◌+ℤ◌, length, get_or, drop, set}
 use Rattle.std.specs.Int.Signed.{lt_z}
 use Rattle.refusal.specs.declared.Refusal.{Refusal}
 use Rattle.refusal.specs.declared.Refusal.TheVariants.{UnsoundRing, NoEmptyRow}
@@ -11,8 +11,10 @@ use Rattle.batch.specs.declared.BatchRecord.{BatchRecord}
 use Rattle.batch.specs.Good.{unless, verdict_of}
 use Rattle.history.specs.declared.Figures.{Figures}
 use Rattle.history.specs.declared.Figures.TheVariants.{None, Of, Refused as NotAnswered}
+use Rattle.history.specs.declared.InRow.{InRow}
+use Rattle.history.specs.declared.InRow.TheVariants as row
 use Rattle.history.specs.declared.Row.{Row}
-use Rattle.history.specs.Table.{reading_limit, row_with, empty_row, sound_table, has_row, row_of, has_empty, lowest_empty, readings_in}
+use Rattle.history.specs.Table.{reading_limit, row_with, empty_row, batches_in, sound_table, has_row, row_of, has_empty, lowest_empty, readings_in}
 
 -- the table after a call, and what the call answered
 pub record Result : Type 0 where
@@ -82,3 +84,10 @@ figures_of (x ∷ xs) = Of (record { lowest = lowest x xs; highest = highest x x
 
 unfoldable pub figures : ℕ → List Row → Figures
 figures b t = unless (sound_table t) (NotAnswered UnsoundRing) (figures_of (readings_in b t))
+
+-- ---- the batch of row i: none where the row is empty, or the table has no such row
+abbrev pub batch_or_none : ℕ → InRow
+batch_or_none b = cond (eqb b 0) row.None (row.Batch (record { 0 = b }))
+
+unfoldable pub batch_in : ℕ → List Row → InRow
+batch_in i t = unless (sound_table t) (row.Refused UnsoundRing) (batch_or_none (get_or (batches_in t) i 0))

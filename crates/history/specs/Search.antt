@@ -1,6 +1,6 @@
 -- What one pass over a table keeps, and what each call makes of it: the definitions that the functions by value meet. A call tests the whole
 -- table and finds its row in the same pass.
-use Rattle.std.specs.Prelude.{ℕ, suc, ◌^◌, ◌-◌, Bool, true, cond, ◌&&◌, List, eqb, ltb, ℤ, set, replicate}
+use Rattle.std.specs.Prelude.{ℕ, suc, ◌^◌, ◌-◌, Bool, true, cond, ◌&&◌, List, eqb, ltb, ℤ, get_or, set, replicate}
 use Rattle.refusal.specs.declared.Refusal.{Refusal}
 use Rattle.refusal.specs.declared.Refusal.TheVariants.{UnsoundRing, NoEmptyRow}
 use Rattle.refusal.specs.declared.Verdict.TheVariants.{Passed, Refused}
@@ -10,10 +10,12 @@ use Rattle.batch.specs.Good.{is_zero, unless, verdict_of}
 use Rattle.history.specs.declared.Decision.{Decision}
 use Rattle.history.specs.declared.Figures.{Figures}
 use Rattle.history.specs.declared.Figures.TheVariants.{Refused as NotAnswered}
+use Rattle.history.specs.declared.InRow.{InRow}
+use Rattle.history.specs.declared.InRow.TheVariants as row
 use Rattle.history.specs.declared.Row.{Row}
 use Rattle.history.specs.declared.Search.{Search}
 use Rattle.history.specs.Table.{row_limit, row_with, empty_row, sound_row, place_of, holds, none_twice, readings_of}
-use Rattle.history.specs.History.{judged, joined, figures_of}
+use Rattle.history.specs.History.{judged, joined, figures_of, batch_or_none}
 
 abbrev pub begin_at : BatchNo → Search
 begin_at b = record { wanted = b; found = empty_row; fine = true; rows = 0; batches = replicate row_limit 0 }
@@ -69,3 +71,6 @@ to_close s b = unless (sound_search s) (unchanged UnsoundRing) (decide (row_in b
 
 abbrev pub to_tell : Search → Figures
 to_tell s = unless (sound_search s) (NotAnswered UnsoundRing) (figures_of (readings_of s.found))
+
+abbrev pub to_list : Search → ℕ → InRow
+to_list s i = unless (sound_search s) (row.Refused UnsoundRing) (batch_or_none (get_or s.batches i 0))

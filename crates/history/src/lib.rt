@@ -1,16 +1,18 @@
 // The temperature history of document 02: a table of 128 rows that the controller lends, one row for each batch with its last 24 readings,
-// oldest first. A record is noted, a batch is closed, and the figures of a batch are asked for. Every call goes over the table once, judges
-// all of it and finds its row; at most one row is rewritten, and a refusal leaves the table as it was.
-// The three calls on the lent table are the last functions here; all they do is by value in the functions before them.
+// oldest first. A record is noted, a batch is closed, the figures of a batch are asked for, and which batch a row is of. Every call goes over
+// the table once, judges all of it and finds its row; at most one row is rewritten, and a refusal leaves the table as it was.
+// The calls on the lent table are the last functions here; all they do is by value in the functions before them.
 #![tactic(auto)]
 
 ghost use Rattle.std.specs.Prelude.{◌≡◌, cond, ◌&&◌, ◌+◌, ◌-◌, ◌≤◌, ◌<◌, [], ◌∷◌, ◌++◌, pos, eqb};
 ghost use Rattle.std.proofs.Math.ListN as ListN;
+ghost use Rattle.refusal.specs.Number.{verdict_number};
 ghost use Rattle.batch.specs.Good.{in_range};
 ghost use Rattle.history.specs.Table.{row_limit, reading_limit, row_with, empty_row, readings_of, is_nought, count_good, cells_good, sound_row, place_of, none_twice};
-ghost use Rattle.history.specs.History.{note, close, figures, joined, figures_of};
+ghost use Rattle.history.specs.History.{note, close, figures, joined, figures_of, batch_or_none, batch_in};
 ghost use Rattle.history.specs.declared.Figures.TheVariants.{Of};
-ghost use Rattle.history.specs.Search.{begin_at, rows_to, seen_at, sound_search, decide, unchanged, home_in, note_good, to_note, to_close, to_tell};
+ghost use Rattle.history.specs.Said.{note_said, close_said, told_in, figures_said, batch_told_in, batch_said};
+ghost use Rattle.history.specs.Search.{begin_at, rows_to, seen_at, sound_search, decide, unchanged, home_in, note_good, to_note, to_close, to_tell, to_list};
 
 use batch::{BatchNo, BatchRecord, in_range, judge};
 use refusal::{Refusal, Verdict};
@@ -40,6 +42,14 @@ pub struct Summary {
 pub enum Figures {
     None,
     Of(Summary),
+    Refused(Refusal),
+}
+
+// The batch of a row; none where the row is empty, or the table has no such row.
+#[derive(Clone, Copy)]
+pub enum InRow {
+    None,
+    Batch(BatchNo),
     Refused(Refusal),
 }
 
@@ -423,11 +433,36 @@ fn to_tell(search: Search, batch: BatchNo) -> Figures
     row_figures(found)
 }
 
+// ---- the batch of a row
+
+fn batch_or_none(batch: u32) -> InRow
+    ensures { result ≡ batch_or_none batch }
+{
+    if batch == 0 {
+        return InRow::None;
+    }
+    InRow::Batch(BatchNo(batch))
+}
+
+fn to_list(search: Search, row: usize) -> InRow
+    ensures { result ≡ to_list search row }
+{
+    if !sound(search) {
+        return InRow::Refused(Refusal::UnsoundRing);
+    }
+    let batches = search.batches;
+    if row < ROWS {
+        return batch_or_none(batches[row]);
+    }
+    InRow::None
+}
+
 // ---- the calls on the lent table. A loop goes over all of it, so that nothing of it is taken on trust.
 
 // A record is noted: its temperature joins the readings of its batch.
 pub fn note(table: &mut [Row], record: BatchRecord) -> Verdict
-    ensures { (table.new ≡ (note «record» table.old).table) × (result ≡ (note «record» table.old).verdict) }
+    ensures done { (table.new ≡ (note «record» table.old).table) × (result ≡ (note «record» table.old).verdict) }
+    ensures said { verdict_number result ≡ note_said «record» table.old }
 {
     let mut search = begin_for(record);
     let mut i = 0;
@@ -446,7 +481,8 @@ pub fn note(table: &mut [Row], record: BatchRecord) -> Verdict
 
 // A batch is closed: its whole row becomes zero. One that has no row changes nothing.
 pub fn close(table: &mut [Row], batch: BatchNo) -> Verdict
-    ensures { (table.new ≡ (close batch.0 table.old).table) × (result ≡ (close batch.0 table.old).verdict) }
+    ensures done { (table.new ≡ (close batch.0 table.old).table) × (result ≡ (close batch.0 table.old).verdict) }
+    ensures said { verdict_number result ≡ close_said table.old }
 {
     let mut search = begin(batch);
     let mut i = 0;
@@ -465,7 +501,8 @@ pub fn close(table: &mut [Row], batch: BatchNo) -> Verdict
 
 // The lowest, the highest and the sum of a batch's readings, or none.
 pub fn figures_of(table: &[Row], batch: BatchNo) -> Figures
-    ensures { result ≡ figures batch.0 table.now }
+    ensures value { result ≡ figures batch.0 table.now }
+    ensures said { told_in result ≡ figures_said batch.0 table.now }
 {
     let mut search = begin(batch);
     let mut i = 0;
@@ -474,4 +511,18 @@ pub fn figures_of(table: &[Row], batch: BatchNo) -> Figures
         i += 1;
     }
     to_tell(search, batch)
+}
+
+// The batch of a row, or none.
+pub fn batch_in(table: &[Row], row: usize) -> InRow
+    ensures value { result ≡ batch_in row table.now }
+    ensures said { batch_told_in result ≡ batch_said row table.now }
+{
+    let mut search = begin(BatchNo(0));
+    let mut i = 0;
+    while i < table.len() {
+        search = seen(search, table[i], i);
+        i += 1;
+    }
+    to_list(search, row)
 }
