@@ -6,7 +6,6 @@ use mathlib.Core.List.{List, ◌++◌, append_assoc}
 use native.Mathlib.Omega.{arith}
 use lib.ListN.{length, take, drop, length-append}
 use lib.Seq.{take_at, drop_at, drop-drop, length-take-le}
-use Rattle.network.proofs.Ground.Splits.{by-same}
 use Rattle.wire.specs.Bytes.{overwritten}
 use Rattle.wire.proofs.Buffer.{length-overwritten}
 use Rattle.report.specs.Line.{line_room}
@@ -100,20 +99,6 @@ module _ {tape before : List ℕ} {first : Session} {out : List ℕ} {s : Sessio
   -- and fewer bytes to come
   pub shorter : length (to_come tape s') < length (to_come tape s)
   shorter = rw (t.session, line-by-line tape s e, length-append) (omega (arith, some-line next_count tape s))
-
--- a run may end where the session is over, or there is less room than for the longest line
-pub ran : {tape before : List ℕ} {first : Session} {out : List ℕ} {s : Session} {at : ℕ} → SoFar tape before first out s at
-    → (s.over ≡ false → length before < at + line_room) → TapeRan tape first before out (record { session = s; written = at })
-ran {at = at} h full = record {
-  count = h.count;
-  session = h.reached;
-  printed = h.printed;
-  full = full;
-  forward = λ e r. by-same at 0 (λ z. omega (arith, full (h.start z ∙ e))) λ z. omega arith;
-  rest = h.rest;
-  within = h.within;
-  text = h.text;
-}
 
 -- For a caller that runs a tape until it is over: each run into a buffer with room for a line leaves fewer bytes to come.
 pub fewer-to-come : {tape before after : List ℕ} {s : Session} {p : Progress} → TapeRan tape s before after p
