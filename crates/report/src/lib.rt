@@ -100,7 +100,7 @@ fn put_text(bytes: &mut [u8], place: usize, line: &[u8]) -> Put
 pub fn write_line(bytes: &mut [u8], place: usize, number: u32, command: u8, reply: Reply) -> Put
     ensures value { result ≡ put_answer bytes.old place (line_of number command reply) }
     ensures bytes_after { bytes.new ≡ put bytes.old place (line_of number command reply) }
-    ensures reply_len_bound { length (line_of number command reply) ≤ line_room }
+    ensures within { length (line_of number command reply) ≤ line_room }
 {
     let mut text = [0u8; LINE_ROOM];
     let end = push_line(&mut text, number, command, reply);
@@ -111,7 +111,7 @@ pub fn write_line(bytes: &mut [u8], place: usize, number: u32, command: u8, repl
 pub fn write_end(bytes: &mut [u8], place: usize, accepted: u32, refused: u32) -> Put
     ensures value { result ≡ put_answer bytes.old place (end_of accepted refused) }
     ensures bytes_after { bytes.new ≡ put bytes.old place (end_of accepted refused) }
-    ensures refused_len_bound { length (end_of accepted refused) ≤ line_room }
+    ensures within { length (end_of accepted refused) ≤ line_room }
 {
     let mut text = [0u8; LINE_ROOM];
     let word_end = text::push_all(&mut text, 0, b"end");
@@ -125,7 +125,7 @@ pub fn write_end(bytes: &mut [u8], place: usize, accepted: u32, refused: u32) ->
 pub fn write_too_long(bytes: &mut [u8], place: usize) -> Put
     ensures value { result ≡ put_answer bytes.old place too_long }
     ensures bytes_after { bytes.new ≡ put bytes.old place too_long }
-    ensures too_long_len_bound { length too_long ≤ line_room }
+    ensures within { length too_long ≤ line_room }
 {
     let mut text = [0u8; LINE_ROOM];
     let word_end = text::push_all(&mut text, 0, b"too long");

@@ -16,4 +16,4 @@ returns c =
     then c.push_field-refused_end.ensures
     then c.push-end.ensures))
     (told.value, told.bytes_after) in
-    record { value = line.0; bytes_after = line.1.0; refused_len_bound = line.1.1 }
+    record { value = line.0; bytes_after = line.1.0; within = line.1.1 }

@@ -11,4 +11,4 @@ returns c =
     let line =
     built _ _ (up_to (omega arith) (c.push_all-word_end.ensures.appends then c.push-end.ensures))
     (told.value, told.bytes_after) in
-    record { value = line.0; bytes_after = line.1.0; too_long_len_bound = line.1.1 }
+    record { value = line.0; bytes_after = line.1.0; within = line.1.1 }
