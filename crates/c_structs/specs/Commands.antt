@@ -64,7 +64,7 @@ abbrev pub leaves : Wanted → Fields → List ℕ → ℕ → List ℕ
 leaves (Known a) x bytes place = after_write (write_at bytes place (with_fields a x)) bytes place (with_fields a x)
 leaves Unknown x bytes place = bytes
 
-abbrev wanted_by : Command → Wanted
+abbrev pub wanted_by : Command → Wanted
 wanted_by c = action_of c.code c.first c.second
 
 abbrev pub writing_to : List ℕ → ℕ → Command → Writing

@@ -1,10 +1,15 @@
 -- What the calls on a history table take and answer, in plain numbers.
-use Rattle.std.specs.Prelude.{ℕ, pos}
+use Rattle.std.specs.Prelude.{ℕ, List, pos}
 use Rattle.refusal.specs.Number.{number_of}
 use Rattle.batch.specs.declared.BatchNo.{BatchNo}
 use Rattle.history.specs.declared.Figures.{Figures}
 use Rattle.history.specs.declared.Figures.TheVariants.{None, Of, Refused as NotAnswered}
+use Rattle.history.specs.declared.InRow.{InRow}
+use Rattle.history.specs.declared.Row.{Row}
+use Rattle.history.specs.Said.{FiguresTold, figures_said, BatchTold, batch_told_in, batch_said}
+use Rattle.network.specs.Counting.{one}
 use Rattle.c_structs.specs.declared.BatchFigures.{BatchFigures}
+use Rattle.c_structs.specs.declared.RowBatch.{RowBatch}
 
 abbrev pub batch_no : ℕ → BatchNo
 batch_no n = record { 0 = n }
@@ -17,3 +22,19 @@ abbrev pub figures_in : Figures → BatchFigures
 figures_in None = no_figures 0
 figures_in (Of s) = record { sum = s.sum; lowest = s.lowest; highest = s.highest; refusal = 0; held = 1 }
 figures_in (NotAnswered r) = no_figures (number_of r)
+
+-- the same from what the history's own definitions have the figures say
+abbrev pub figures_struct : FiguresTold → BatchFigures
+figures_struct f = record { sum = f.sum; lowest = f.lowest; highest = f.highest; refusal = f.number; held = one f.any }
+
+abbrev pub figures_to : ℕ → List Row → BatchFigures
+figures_to batch table = figures_struct (figures_said batch table)
+
+abbrev pub batch_struct : BatchTold → RowBatch
+batch_struct b = record { batch = b.batch; refusal = b.number }
+
+abbrev pub batch_in : InRow → RowBatch
+batch_in in_row = batch_struct (batch_told_in in_row)
+
+abbrev pub batch_to : ℕ → List Row → RowBatch
+batch_to row table = batch_struct (batch_said row table)

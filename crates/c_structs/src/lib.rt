@@ -70,6 +70,14 @@ pub struct BatchFigures {
     pub held: u8,
 }
 
+// The batch of a row of a history table; zero where there is none.
+#[repr(C)]
+#[derive(Clone, Copy)]
+pub struct RowBatch {
+    pub batch: u32,
+    pub refusal: u8,
+}
+
 // A command of the tape: its command byte, its operands of one byte, and the fields of a send; zeros where it has none.
 #[repr(C)]
 #[derive(Clone, Copy)]

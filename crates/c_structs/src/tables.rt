@@ -1,10 +1,11 @@
 // What the calls on a history table take and answer, between C's form and the history's.
 ghost use Rattle.std.specs.Prelude.{◌≡◌};
-ghost use Rattle.c_structs.specs.Tables.{batch_no, no_figures, figures_in};
+ghost use Rattle.history.specs.Said.{told_in};
+ghost use Rattle.c_structs.specs.Tables.{batch_no, no_figures, figures_in, figures_struct, batch_in};
 
-use crate::BatchFigures;
+use crate::{BatchFigures, RowBatch};
 use batch::BatchNo;
-use history::Figures;
+use history::{Figures, InRow};
 
 pub fn batch_no(number: u32) -> BatchNo
     ensures { result ≡ batch_no number }
@@ -25,7 +26,8 @@ fn no_figures(refusal: u8) -> BatchFigures
 }
 
 pub fn figures_in(figures: Figures) -> BatchFigures
-    ensures { result ≡ figures_in figures }
+    ensures value { result ≡ figures_in figures }
+    ensures said { result ≡ figures_struct (told_in figures) }
 {
     match figures {
         Figures::None => no_figures(0),
@@ -37,5 +39,24 @@ pub fn figures_in(figures: Figures) -> BatchFigures
             held: 1,
         },
         Figures::Refused(refusal) => no_figures(refusal.number()),
+    }
+}
+
+pub fn batch_in(row: InRow) -> RowBatch
+    ensures { result ≡ batch_in row }
+{
+    match row {
+        InRow::None => RowBatch {
+            batch: 0,
+            refusal: 0,
+        },
+        InRow::Batch(batch) => RowBatch {
+            batch: batch.0,
+            refusal: 0,
+        },
+        InRow::Refused(refusal) => RowBatch {
+            batch: 0,
+            refusal: refusal.number(),
+        },
     }
 }

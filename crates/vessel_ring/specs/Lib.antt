@@ -1,1 +1,3 @@
+pub mod Held
 pub mod Listed
+pub mod Version

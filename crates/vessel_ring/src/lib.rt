@@ -1,13 +1,13 @@
 // The ring for firmware, as C functions: include/vessel_ring.h has their types for C and says how to use them, and `rt lib` in this
 // crate's folder writes the library. The ring calls go on a ring that the caller keeps and lends by pointer, those of the history on a
-// table likewise; beside them stand the reader and the writer of commands, the test for a sound ring and the listing of a tape. Every
-// function takes every value: no byte of a ring, a table, a record, a command or a tape is trusted, a refusal answers its number and leaves
-// everything as it was.
+// table likewise; beside them stand the reader and the writer of commands, the test for a sound ring, the record in a ring's bytes, the
+// listing of a tape and the version of all this. Every function takes every value: no byte of a ring, a table, a record, a command or a tape
+// is trusted, a refusal answers its number and leaves everything as it was.
 //
 // An exported call makes a command or a question of its numbers, hands the ring on to `site`, and tells the reply in numbers. One more takes
 // its maker in `c_structs` and the function here; where its answer has a value that no other has, a field of `AnswerNumbers` of `c_structs`
-// and of the struct that it answers; its prototype in the header, and its arm in tests/calls. One more command of the tape takes nothing
-// here: `commands` of `c_structs` reads the tape's own table.
+// and of the struct that it answers; its prototype in the header, a version and its lines in docs/C-CHANGES.md, and its arm in tests/calls.
+// One more command of the tape takes nothing here: `commands` of `c_structs` reads the tape's own table.
 #![tactic(auto)]
 
 ghost use Rattle.std.specs.Prelude.{◌≡◌};
@@ -17,6 +17,7 @@ ghost use Rattle.batch.specs.Sending.{record_from};
 ghost use Rattle.convert.specs.TurnedRing.{turn_ring};
 ghost use Rattle.convert.specs.TurnedTable.{turn_table};
 ghost use Rattle.history.specs.History as History;
+ghost use Rattle.history.specs.Said.{note_said, close_said};
 ghost use Rattle.network.specs.Answers.{reply_of};
 ghost use Rattle.network.specs.Counting.{one};
 ghost use Rattle.network.specs.Dispatcher.{dispatch_step};
@@ -28,16 +29,31 @@ ghost use Rattle.tape.specs.Tape.{read_at};
 ghost use Rattle.c_structs.specs.Answers.{numbers_in, number_to, delivery_to, rounds_to, hops_left_in, waiting_in};
 ghost use Rattle.c_structs.specs.Commands.{reading_in, writing_to, after_writing};
 ghost use Rattle.vessel_ring.specs.Listed.{Listed};
-ghost use Rattle.c_structs.specs.Tables.{figures_in};
+ghost use Rattle.vessel_ring.specs.Version.{version};
+ghost use Rattle.vessel_ring.specs.Held.{record_held};
+ghost use Rattle.c_structs.specs.Tables.{figures_in, figures_to, batch_to};
 
 use batch::BatchRecord;
 use batch::sending::Fields;
 use c_structs::{
-    BatchFigures, Command, Delivery, HopsLeft, Reading, Rounds, Waiting, Writing, commands, tables,
+    BatchFigures, Command, Delivery, HopsLeft, Reading, Rounds, RowBatch, Waiting, Writing,
+    commands, tables,
 };
 use history::Row;
 use network::Ring;
 use runner::Session;
+use wire;
+
+// Raised with each change of the interface; include/vessel_ring.h has the rule, docs/C-CHANGES.md what each brought.
+const VERSION: u32 = 301;
+
+// The version of the interface: the header's, which a firmware compares with it.
+#[unsafe(no_mangle)]
+pub extern "C" fn vessel_version() -> u32
+    ensures { result ≡ version }
+{
+    VERSION
+}
 
 #[unsafe(no_mangle)]
 pub extern "C" fn vessel_ring_fresh() -> Ring
@@ -184,10 +200,23 @@ pub extern "C" fn vessel_ring_to_hundredths(ring: &mut Ring) -> u8
     c_structs::refusal_in(reply)
 }
 
+// The record that lies in 40 bytes, as those of a ring's offers do; of fewer bytes, the blank one.
+#[tactic(auto, unfolding(crate::specs::Held::record_held))]
+#[unsafe(no_mangle)]
+pub extern "C" fn vessel_record_in(bytes: &[u8]) -> BatchRecord
+    ensures { result ≡ record_held bytes.now }
+{
+    if bytes.len() < wire::RECORD_LENGTH {
+        return BatchRecord::none();
+    }
+    wire::record_in(bytes)
+}
+
 #[unsafe(no_mangle)]
 pub extern "C" fn vessel_history_note(table: &mut [Row], record: BatchRecord) -> u8
-    ensures { (table.new ≡ (History.note «record» table.old).table)
+    ensures done { (table.new ≡ (History.note «record» table.old).table)
         × (result ≡ verdict_number (History.note «record» table.old).verdict) }
+    ensures said { result ≡ note_said «record» table.old }
 {
     let verdict = history::note(table, record);
     verdict.number()
@@ -195,8 +224,9 @@ pub extern "C" fn vessel_history_note(table: &mut [Row], record: BatchRecord) ->
 
 #[unsafe(no_mangle)]
 pub extern "C" fn vessel_history_close(table: &mut [Row], batch: u32) -> u8
-    ensures { (table.new ≡ (History.close batch table.old).table)
+    ensures done { (table.new ≡ (History.close batch table.old).table)
         × (result ≡ verdict_number (History.close batch table.old).verdict) }
+    ensures said { result ≡ close_said table.old }
 {
     let batch = tables::batch_no(batch);
     let verdict = history::close(table, batch);
@@ -205,11 +235,21 @@ pub extern "C" fn vessel_history_close(table: &mut [Row], batch: u32) -> u8
 
 #[unsafe(no_mangle)]
 pub extern "C" fn vessel_history_figures(table: &[Row], batch: u32) -> BatchFigures
-    ensures { result ≡ figures_in (History.figures batch table.now) }
+    ensures value { result ≡ figures_in (History.figures batch table.now) }
+    ensures said { result ≡ figures_to batch table.now }
 {
     let batch = tables::batch_no(batch);
     let figures = history::figures_of(table, batch);
     tables::figures_in(figures)
+}
+
+// The batch of a row, 0 where the row is empty or the table has no such row.
+#[unsafe(no_mangle)]
+pub extern "C" fn vessel_history_batch(table: &[Row], row: usize) -> RowBatch
+    ensures { result ≡ batch_to row table.now }
+{
+    let batch = history::batch_in(table, row);
+    tables::batch_in(batch)
 }
 
 // A table in tenths of a degree, from before, into hundredths.
