@@ -1,14 +1,28 @@
 /* The vessel ring for firmware: C11 and C++, x86-64 System V. Link libvessel_ring.a, which `tools/library` writes to
-   crates/vessel_ring/out. Every function is proved to do what its contract in crates/vessel_ring/src/lib.rt says, for every value of every
-   argument. This header is written by hand; the assertions at its end hold its types to the sizes and places that the library has.
+   crates/vessel_ring/out. Every function of the library is proved to do what its contract in crates/vessel_ring/src/lib.rt says, for every value
+   of every argument; the small ones in C behind them are tested. This header is written by hand; the assertions at its end hold its types
+   to the sizes and places that the library has.
 
-   How it is used. Keep one struct vessel_ring and lend it to the calls:
+   Who holds it. A site has one struct vessel_ring for all its vessels, and one controller holds it; each vessel's controller is a node, and the
+   cable joins them in a ring:
 
-       struct vessel_ring ring = vessel_ring_fresh();
+       node 0 --- move 0 --> node 1 --- move 1 --> node 2 --- move 2 --> node 0
+
+   Which one holds it, how the others reach it, the drivers of the cable and clocks are left to the controllers. A task that wants or has a record
+   is a receive or a send on that struct. A move that is accepted is one message on the cable, from its node to the next: before the call
+   slots[node][0] is its channel + 1, and carried[channel] has the record of a response. The driver then carries it, hands on what was delivered,
+   and makes the next call at these two nodes when the message has arrived. No call waits or knows of time. docs/RING.md has the rules of the
+   ring, examples/c/main_loop.c the loop.
+
+   How it is used. Keep one struct vessel_ring and lend it to the calls (examples/c/firmware.c is a whole program):
+
+       static struct vessel_ring ring = VESSEL_RING_FRESH;
+       if (vessel_version() != VESSEL_VERSION) ...       header and library are not of one version: do not go on
        vessel_ring_add_node(&ring, 4);                   the plan: nodes, channels, start
        vessel_ring_add_channel(&ring, 1, 0);
        vessel_ring_start(&ring);
        vessel_ring_receive(&ring, 0);                    the tasks: ask for a record, offer one
+       vessel_record_make(&record, 7, 3, 6120, "A1");
        vessel_ring_send(&ring, 0, record);
        vessel_ring_enter(&ring, 0);                      the traffic: at every node, again and again
        struct vessel_delivery d = vessel_ring_move(&ring, 0);
@@ -17,24 +31,36 @@
 
    Beside it, where the temperatures of the batches are wanted, keep a table of rows, which begins as zeros, and lend it to its own calls:
 
-       static struct vessel_row table[VESSEL_HISTORY_ROWS];
-       vessel_history_note(table, VESSEL_HISTORY_ROWS, d.record);                        what was delivered, say
-       struct vessel_figures f = vessel_history_figures(table, VESSEL_HISTORY_ROWS, 7);  of batch 7
-       vessel_history_close(table, VESSEL_HISTORY_ROWS, 7);                              its row is free for another batch
+       static struct vessel_row table[VESSEL_HISTORY_ROWS] = VESSEL_TABLE_EMPTY;
+       vessel_history_note(table, VESSEL_ROWS(table), d.record);                        what was delivered, say
+       struct vessel_figures f = vessel_history_figures(table, VESSEL_ROWS(table), 7);  of batch 7
+       struct vessel_row_batch b = vessel_history_batch(table, VESSEL_ROWS(table), 0);  the batch of row 0, if any
+       vessel_history_close(table, VESSEL_ROWS(table), 7);                              its row is free for another batch
 
-   Every call answers 0, VESSEL_DONE, or the number of the first refusal that applies, by itself or as `refusal` of a struct. A refusal
-   leaves the ring, the table and every buffer as they were, to the byte. Do not write to ring or table yourself; one whose bytes are not
-   those of a sound ring or table, for whatever reason, is refused by every call on it with VESSEL_UNSOUND_RING.
+   A call on a ring, a table or a tape answers 0, VESSEL_DONE, or the number of the first refusal that applies, by itself or as `refusal` of
+   a struct. A refusal leaves the ring, the table and every buffer as they were, to the byte. Do not write to ring or table yourself; one
+   whose bytes are not those of a sound ring or table, for whatever reason, is refused by every call on it with VESSEL_UNSOUND_RING.
 
    What the caller owes, and nothing checks:
-   - `ring` points to a whole struct vessel_ring that nothing else reads or writes during the call: the calls know no locks;
-   - `table` points to `rows` rows, likewise; that they are 128 is checked;
+   - `ring` points to a whole struct vessel_ring, aligned as one is, to 4 bytes;
+   - `table` points to `rows` rows, aligned likewise. All of them are read before the call answers. So 25 for another number of rows than
+     128 is said of rows that are there; a number greater than that of the rows there are has the call read beyond them, and no answer
+     protects from it. VESSEL_ROWS(table) counts the rows of an array;
    - `bytes` points to `length` bytes, and `tape` and `out` do not overlap;
+   - nothing else reads or writes during the call what is lent to it (below: interrupts);
    - the stack has VESSEL_STACK bytes, for vessel_ring_to_hundredths VESSEL_STACK_TURNING: no other call copies the ring;
-   - memcpy and memset of the C library are there. Nothing is allocated, and nothing is kept between calls.
+   - memcpy, memmove and memset are there, the C library's or the firmware's own: the library needs nothing else from outside. Nothing is
+     allocated, and nothing is kept between calls.
 
-   A ring and a row have no padding: they may be copied, compared and stored as memory. Their numbers of 16 and 32 bits have the machine's
-   byte order. */
+   Interrupts and tasks. The calls know no locks. On one ring, or one table, there is one call at a time: where an interrupt handler calls too,
+   keep it off while the main program calls, or let it leave what it has in a place of its own, and call from the main loop. The calls that
+   take a const ring or table read it and write nothing: any number of them may be under way on it at once, while none of the others is.
+   Calls on different rings and tables may interrupt one another as they like.
+
+   A ring from a store. A ring and a row have no padding: they may be copied, compared and stored as memory. Their numbers of 16 and 32 bits
+   have the machine's byte order. Copy what was loaded into a struct vessel_ring, by memcpy, rather than point into a buffer of bytes, which
+   may lie at any address; then ask vessel_ring_is_sound. A ring of zeros is a fresh one, so a static ring is fresh from the start, and a
+   store that was never written, where it reads as zeros, gives a fresh ring and not a refusal. */
 #ifndef VESSEL_RING_H
 #define VESSEL_RING_H
 
@@ -45,6 +71,19 @@
 extern "C" {
 #endif
 
+/* The version of this interface. The library says its own, vessel_version(), for the firmware to compare at start. The major number rises
+   where firmware has to be looked at: source written for the number before does not compile, or compiles and does something else. The minor
+   number rises where something is added that such source does not notice. docs/C-CHANGES.md says what each brought. A firmware that says
+   for which major number it was written does not miss a change:
+
+       #if VESSEL_MAJOR != 3
+       #error "read docs/C-CHANGES.md"
+       #endif
+*/
+#define VESSEL_MAJOR 3
+#define VESSEL_MINOR 1
+#define VESSEL_VERSION (100 * VESSEL_MAJOR + VESSEL_MINOR)
+
 /* The limits, and the sizes of the arrays. */
 #define VESSEL_NODES 16
 #define VESSEL_CHANNELS 64
@@ -54,10 +93,12 @@ extern "C" {
 #define VESSEL_HISTORY_ROWS 128 /* of a history, no more and no fewer */
 #define VESSEL_READINGS 24      /* of a row of it */
 #define VESSEL_LINE_ROOM 160    /* room for any line of a listing */
+#define VESSEL_TEXT 96          /* room for any text of a refusal, with the 0 behind it */
 #define VESSEL_STACK 18432         /* measured: the dispatcher 13,600, the listing 11,400, a move 7,150, any other call on a ring 5,600; the others were not */
 #define VESSEL_STACK_TURNING 32768 /* 23,300 */
 
-/* The refusals. Document 01 has the order in which each call tests them; docs/REFUSALS.md has it as a table. */
+/* The refusals. Document 01 has the order in which each call tests them; docs/REFUSALS.md has it as a table. A call answers one as a byte;
+   vessel_refusal_of makes it this type, so that the compiler says which of them a switch leaves out. */
 enum vessel_refusal {
     VESSEL_DONE = 0,                     /* none: the call was accepted */
     VESSEL_ALREADY_STARTED = 1,          /* the plan is closed */
@@ -117,7 +158,8 @@ struct vessel_ring {
     uint8_t offered[VESSEL_CHANNELS];     /* 1 where a record is offered */
     uint8_t slots[VESSEL_NODES][VESSEL_SLOTS];                     /* the buffers: channel number + 1, oldest first */
     uint8_t lines[VESSEL_NODES][VESSEL_SLOTS];                     /* the lines, likewise */
-    uint8_t offers[VESSEL_CHANNELS][VESSEL_RECORD_BYTES];          /* the record offered, as in command 0x25 */
+    uint8_t offers[VESSEL_CHANNELS][VESSEL_RECORD_BYTES];          /* the record offered, in the order of command 0x25, which is not that of
+                                                                      struct vessel_record: vessel_ring_offer and vessel_record_in read it */
     uint8_t carried[VESSEL_CHANNELS][VESSEL_RECORD_BYTES];         /* the record that the response carries, likewise */
 };
 
@@ -179,6 +221,12 @@ struct vessel_figures {
     uint8_t held; /* 1 where the batch has a row, else 0 */
 };
 
+/* The batch of a row of the history. */
+struct vessel_row_batch {
+    uint32_t batch; /* 0 where the row is empty, where there is no such row, and where refused */
+    uint8_t refusal;
+};
+
 /* A command of the tape. `code` is its command byte: 0x10 add node (first: slots), 0x11 add channel (first: sender, second: receiver),
    0x12 start, 0x20 receive (first: channel), 0x21 send in tenths (first: channel; record), 0x22 enter (first: node), 0x23 move (first:
    node), 0x24 withdraw (first: channel), 0x25 send in hundredths (first: channel; record). The temperature beside 0x21 is tenths of a
@@ -205,6 +253,22 @@ struct vessel_writing {
     uint8_t refusal;
 };
 
+/* What a ring and a table begin with, as initialisers: zeros. And the number of rows of a table that is an array; of a pointer, which does
+   not know its rows, it is 0, and the call answers 25. */
+#ifdef __cplusplus
+#define VESSEL_RING_FRESH {}
+#define VESSEL_TABLE_EMPTY {}
+#else
+#define VESSEL_RING_FRESH {0}
+#define VESSEL_TABLE_EMPTY {{0}}
+#endif
+#define VESSEL_ROWS(table) (sizeof(table) / sizeof((table)[0]))
+
+/* ---- the version */
+
+/* VESSEL_VERSION of the header that this library belongs to. */
+uint32_t vessel_version(void);
+
 /* ---- the plan */
 
 /* A ring with no node and no channel, not started. Document 01's nodes and channels get their numbers in the order in which they are
@@ -227,7 +291,9 @@ uint8_t vessel_ring_start(struct vessel_ring *ring);
 uint8_t vessel_ring_receive(struct vessel_ring *ring, uint8_t channel);
 
 /* Offers a record on a channel. If the request has arrived, the record joins the sender node's line as the response; else it is kept
-   until the request arrives. Its name may be empty, but not begin or end with a blank. Refusals: 25, 8, 9, 11, 12, 13, 14, 30, 15. */
+   until the request arrives. Its name may be empty, but not begin or end with a blank. Its temperature is in hundredths: 612 is 6.12
+   degrees. Under major numbers 1 and 2 it is in tenths, and source from there compiles here as it is: a probe that gives tenths wants
+   vessel_ring_send_tenths. Refusals: 25, 8, 9, 11, 12, 13, 14, 30, 15. */
 uint8_t vessel_ring_send(struct vessel_ring *ring, uint8_t channel, struct vessel_record record);
 
 /* The same with a temperature in tenths, for a probe that gives these: 12 where it is not -400 to 1200, else the record offered has ten
@@ -246,8 +312,9 @@ uint8_t vessel_ring_enter(struct vessel_ring *ring, uint8_t node);
 struct vessel_delivery vessel_ring_move(struct vessel_ring *ring, uint8_t node);
 
 /* The dispatcher: runs the ring for at most so many rounds, and no longer than until no channel is asking or answering. A round tries an
-   entry and then a move at each node in turn, from node 0. Fewer rounds than were given say that nothing is left on the ring; with c
-   channels and n nodes, c * (2 * n + 2) rounds always leave nothing. Refusals: 25, 8. */
+   entry and then a move at each node in turn, from node 0. Fewer rounds than were given say that nothing is left on the ring; where all were
+   made, vessel_ring_under_way says what is. With c channels and n nodes c * (2 * n + 2) rounds, vessel_rounds_enough, always leave nothing.
+   Refusals: 25, 8. */
 struct vessel_dispatched vessel_ring_dispatch(struct vessel_ring *ring, uint16_t rounds);
 
 /* ---- a task that gives up */
@@ -267,6 +334,10 @@ struct vessel_waiting vessel_ring_waiting_set(const struct vessel_ring *ring, ui
 
 /* 1 where the ring is sound, else 0: then every call answers 25. For a ring that comes from a store or over a wire. */
 uint8_t vessel_ring_is_sound(const struct vessel_ring *ring);
+
+/* The record in 40 bytes as a ring holds them, in offers and carried. Fewer bytes give a record of zeros, whose batch number 0 no good record
+   has; more are not looked at. Nothing is judged: what the bytes say is answered. vessel_ring_offer and vessel_ring_carried go by channel. */
+struct vessel_record vessel_record_in(const uint8_t *bytes, size_t length);
 
 /* ---- a ring from before the temperatures were hundredths */
 
@@ -289,6 +360,10 @@ uint8_t vessel_history_close(struct vessel_row *table, size_t rows, uint32_t bat
 /* The lowest, the highest and the sum of the readings in the row of a batch. Refusals: 25. */
 struct vessel_figures vessel_history_figures(const struct vessel_row *table, size_t rows, uint32_t batch);
 
+/* The batch of a row: for rows 0 to VESSEL_HISTORY_ROWS - 1 they are all that the table has, in any order and with empty rows between them.
+   Refusals: 25. */
+struct vessel_row_batch vessel_history_batch(const struct vessel_row *table, size_t rows, size_t row);
+
 /* Turns a table held in tenths into one held in hundredths: every reading, and so every figure, becomes ten times as many, and all else
    stays. Of a second time the same holds as of a ring. Refusals: 25, a table that is not sound in tenths; one that is, is a sound table
    with readings of -400 to 1200. */
@@ -299,13 +374,134 @@ uint8_t vessel_history_to_hundredths(struct vessel_row *table, size_t rows);
 /* Reads the command at a place of a tape of so many bytes. Refusals: 24, 22, 23. */
 struct vessel_reading vessel_tape_read(const uint8_t *bytes, size_t length, size_t place);
 
-/* Writes a command at a place of a buffer of so many bytes, and nothing before or behind it. Every operand value is written, good or not.
+/* Writes a command at a place of a buffer of so many bytes, and nothing before or behind it. Every operand value is written, good or not;
+   operands and fields that its code does not have are not. A command that was read, written at its place, leaves the bytes as they were.
    Refusals: 22 a code that no command has; 24, 26. */
 struct vessel_writing vessel_tape_write(uint8_t *bytes, size_t length, size_t place, struct vessel_command command);
 
 /* Runs a tape on a fresh ring and writes its listing from the beginning of `out`, as many whole lines as have room; answers how many bytes
-   that is. All of the listing is there where `room` is its length and VESSEL_LINE_ROOM more. */
+   that is. All of the listing is there where `room` is its length and VESSEL_LINE_ROOM more. A line is written where VESSEL_LINE_ROOM bytes are
+   left for it, however short it is: so all of the listing is there where as many are left of `room`, which vessel_list_is_whole says. Where
+   fewer are left there may be more of it, and what is there looks no different but for its last line: that of a whole listing begins with
+   `end`, or is `too long`. */
 size_t vessel_ring_list(const uint8_t *tape, size_t length, uint8_t *out, size_t room);
+
+/* ---- what every firmware writes. These are C, and tested; the functions before this are proved. */
+
+/* 1 where a listing of so many bytes is all of it: room for one more line is left. */
+static inline uint8_t vessel_list_is_whole(size_t written, size_t room)
+{
+    return written <= room && room - written >= VESSEL_LINE_ROOM;
+}
+
+/* Makes a record of a C string. Refusal: 13, a name of more than 32 bytes, which is never cut; the record is then as it was. All else, the
+   temperature and the bytes of the name, is for send to judge. */
+static inline uint8_t vessel_record_make(struct vessel_record *record, uint32_t batch, uint8_t vessel, int16_t temperature, const char *name)
+{
+    uint8_t length = 0;
+    uint8_t i;
+    while (name[length] != '\0') {
+        if (length == VESSEL_NAME)
+            return VESSEL_NAME_TOO_LONG;
+        length++;
+    }
+    record->batch = batch;
+    record->vessel = vessel;
+    record->name_length = length;
+    record->temperature = temperature;
+    for (i = 0; i < VESSEL_NAME; i++)
+        record->name[i] = i < length ? (uint8_t)name[i] : (uint8_t)0;
+    return VESSEL_DONE;
+}
+
+/* The record offered on a channel, and the one that its response carries: of zeros where there is none, or no such channel. */
+static inline struct vessel_record vessel_ring_offer(const struct vessel_ring *ring, uint8_t channel)
+{
+    return channel < VESSEL_CHANNELS ? vessel_record_in(ring->offers[channel], VESSEL_RECORD_BYTES) : vessel_record_in(ring->offers[0], 0);
+}
+
+static inline struct vessel_record vessel_ring_carried(const struct vessel_ring *ring, uint8_t channel)
+{
+    return channel < VESSEL_CHANNELS ? vessel_record_in(ring->carried[channel], VESSEL_RECORD_BYTES) : vessel_record_in(ring->carried[0], 0);
+}
+
+/* So many rounds of the dispatcher that nothing is left on a sound ring, whatever is on it: c * (2 * n + 2). */
+static inline uint16_t vessel_rounds_enough(const struct vessel_ring *ring)
+{
+    return (uint16_t)(ring->channel_count * (2 * ring->node_count + 2));
+}
+
+/* How many channels are asking or answering, and so how many messages are on a sound ring: 0 where nothing is left to dispatch. */
+static inline uint8_t vessel_ring_under_way(const struct vessel_ring *ring)
+{
+    uint8_t channels = 0;
+    uint8_t i;
+    for (i = 0; i < VESSEL_CHANNELS; i++)
+        if (ring->phases[i] == VESSEL_ASKING || ring->phases[i] == VESSEL_ANSWERING)
+            channels++;
+    return channels;
+}
+
+/* What a call answered, as the type of the refusals. The library answers no other number. */
+static inline enum vessel_refusal vessel_refusal_of(uint8_t number)
+{
+    return (enum vessel_refusal)number;
+}
+
+/* What a number says, in words: the meaning that docs/REFUSALS.md has for it, up to its first stop or colon. The text is constant. */
+static inline const char *vessel_refusal_text(uint8_t number)
+{
+    if (number > VESSEL_BLANK_END)
+        return "There is no refusal of this number";
+    switch (vessel_refusal_of(number)) {
+    case VESSEL_DONE: return "The call was accepted";
+    case VESSEL_ALREADY_STARTED: return "The ring has already started";
+    case VESSEL_NODES_FULL: return "Sixteen nodes stand already";
+    case VESSEL_BAD_SLOTS: return "The slots are not 1 to 64";
+    case VESSEL_CHANNELS_FULL: return "Sixty-four channels stand already";
+    case VESSEL_NO_SUCH_END: return "The sender or the receiver is not a node added so far";
+    case VESSEL_NOTHING_TO_START: return "There is no node, or no channel";
+    case VESSEL_TOO_FEW_SLOTS: return "The slots of all nodes together are not more than the channels";
+    case VESSEL_NOT_STARTED: return "The ring has not started";
+    case VESSEL_NO_SUCH_CHANNEL: return "There is no channel of this number";
+    case VESSEL_NOT_RESTING: return "The channel is not resting";
+    case VESSEL_BATCH_NUMBER_ZERO: return "The record's batch number is 0";
+    case VESSEL_TEMPERATURE_OUT_OF_RANGE: return "The temperature is not -40 to 120 degrees";
+    case VESSEL_NAME_TOO_LONG: return "The record's name length is over 32";
+    case VESSEL_BAD_NAME: return "A byte of the record's name is not hexadecimal 20 to 7E, or a byte after the name is not 0";
+    case VESSEL_ALREADY_OFFERED: return "A record is already offered on the channel";
+    case VESSEL_NO_SUCH_NODE: return "There is no node of this number";
+    case VESSEL_LINE_EMPTY: return "The node's line is empty";
+    case VESSEL_NO_FREE_SLOT: return "The node has no free slot";
+    case VESSEL_BUFFER_EMPTY: return "The node's buffer is empty";
+    case VESSEL_NEXT_BUFFER_FULL: return "The message goes on past the next node, and that node has no free slot";
+    case VESSEL_TURN_MARK_SET: return "The message goes on past the next node, and that node's turn mark is set";
+    case VESSEL_UNKNOWN_COMMAND: return "The command byte is unknown";
+    case VESSEL_COMMAND_CUT: return "Fewer bytes are left than the command is wide";
+    case VESSEL_PLACE_BEYOND_END: return "The place is beyond the length of the bytes";
+    case VESSEL_UNSOUND_RING: return "The ring handed in is not sound; or the history table";
+    case VESSEL_NO_ROOM_TO_WRITE: return "There are fewer bytes from the place on than the command is wide";
+    case VESSEL_NOT_ASKING: return "The channel is not asking";
+    case VESSEL_REQUEST_IN_BUFFER: return "The channel's request is in a buffer";
+    case VESSEL_NO_EMPTY_ROW: return "The batch has no row in the history table, and no row is empty";
+    case VESSEL_BLANK_END: return "The record's name begins or ends with a blank (hexadecimal 20)";
+    }
+    return "There is no refusal of this number";
+}
+
+/* What is under way on a channel, in a word. */
+static inline const char *vessel_phase_text(uint8_t phase)
+{
+    if (phase > VESSEL_ANSWERING)
+        return "no phase";
+    switch ((enum vessel_phase)phase) {
+    case VESSEL_RESTING: return "resting";
+    case VESSEL_ASKING: return "asking";
+    case VESSEL_READY: return "ready";
+    case VESSEL_ANSWERING: return "answering";
+    }
+    return "no phase";
+}
 
 #ifdef __cplusplus
 }
@@ -374,6 +570,10 @@ VESSEL_AT(vessel_figures, lowest, 4);
 VESSEL_AT(vessel_figures, highest, 6);
 VESSEL_AT(vessel_figures, refusal, 8);
 VESSEL_AT(vessel_figures, held, 9);
+
+VESSEL_HOLDS(sizeof(struct vessel_row_batch) == 8);
+VESSEL_AT(vessel_row_batch, batch, 0);
+VESSEL_AT(vessel_row_batch, refusal, 4);
 
 VESSEL_HOLDS(sizeof(struct vessel_command) == 44);
 VESSEL_AT(vessel_command, code, 0);

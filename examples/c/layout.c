@@ -180,6 +180,7 @@ static void row_fields(void)
     static struct vessel_row table[VESSEL_HISTORY_ROWS], empty;
     struct vessel_record record = record_of(0xFEDCBA98u);
     struct vessel_figures f;
+    struct vessel_row_batch b;
     int i;
     for (i = 0; i < VESSEL_READINGS; i++) {
         record.temperature = (int16_t)(i - 4000);
@@ -196,14 +197,24 @@ static void row_fields(void)
     }
     f = vessel_history_figures(table, VESSEL_HISTORY_ROWS, 0x01020304u + 127);
     HOLDS(f.refusal == 0 && f.held == 1 && f.lowest == 11127 && f.highest == 11127 && f.sum == 11127);
+    b = vessel_history_batch(table, VESSEL_HISTORY_ROWS, 0);
+    HOLDS(b.refusal == 0 && b.batch == 0xFEDCBA98u);
+    b = vessel_history_batch(table, VESSEL_HISTORY_ROWS, VESSEL_HISTORY_ROWS - 1);
+    HOLDS(b.refusal == 0 && b.batch == 0x01020304u + 127);
+    b = vessel_history_batch(table, VESSEL_HISTORY_ROWS, VESSEL_HISTORY_ROWS);
+    HOLDS(b.refusal == 0 && b.batch == 0);
     record.batch = 7;
     HOLDS(vessel_history_note(table, VESSEL_HISTORY_ROWS, record) == VESSEL_NO_EMPTY_ROW);
     HOLDS(vessel_history_close(table, VESSEL_HISTORY_ROWS, 0xFEDCBA98u) == VESSEL_DONE);
     HOLDS(memcmp(&table[0], &empty, sizeof empty) == 0 && table[1].count == 1);
     f = vessel_history_figures(table, VESSEL_HISTORY_ROWS, 0xFEDCBA98u);
     HOLDS(f.refusal == 0 && f.held == 0 && f.lowest == 0 && f.highest == 0 && f.sum == 0);
+    b = vessel_history_batch(table, VESSEL_HISTORY_ROWS, 0);
+    HOLDS(b.refusal == 0 && b.batch == 0);
     f = vessel_history_figures(table, VESSEL_HISTORY_ROWS - 1, 0xFEDCBA98u);
     HOLDS(f.refusal == VESSEL_UNSOUND_RING && f.held == 0);
+    b = vessel_history_batch(table, VESSEL_HISTORY_ROWS - 1, 1);
+    HOLDS(b.refusal == VESSEL_UNSOUND_RING && b.batch == 0);
 }
 
 int main(void)

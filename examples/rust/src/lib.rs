@@ -3,6 +3,9 @@
 
 use std::mem::{offset_of, size_of};
 
+/// The version of the header that these types are of; [`version`] is the library's.
+pub const VERSION: u32 = 301;
+
 pub const NODES: usize = 16;
 pub const CHANNELS: usize = 64;
 /// The most slots of a node, and the cells of a node's row.
@@ -110,6 +113,13 @@ pub struct Figures {
 
 #[repr(C)]
 #[derive(Clone, Copy, PartialEq, Eq, Debug, Default)]
+pub struct RowBatch {
+    pub batch: u32,
+    pub refusal: u8,
+}
+
+#[repr(C)]
+#[derive(Clone, Copy, PartialEq, Eq, Debug, Default)]
 pub struct Command {
     pub code: u8,
     pub first: u8,
@@ -142,15 +152,17 @@ const _: () = {
     assert!(size_of::<Hops>() == 2 && size_of::<Waiting>() == 16 && offset_of!(Waiting, refusal) == 12);
     assert!(size_of::<Row>() == 56 && offset_of!(Row, readings) == 8);
     assert!(size_of::<Figures>() == 12 && offset_of!(Figures, highest) == 6 && offset_of!(Figures, held) == 9);
+    assert!(size_of::<RowBatch>() == 8 && offset_of!(RowBatch, refusal) == 4);
     assert!(size_of::<Command>() == 44 && offset_of!(Command, record) == 4);
     assert!(size_of::<Reading>() == 56 && offset_of!(Reading, command) == 12);
     assert!(size_of::<Writing>() == 16);
 };
 
 mod c {
-    use super::{Command, Delivery, Dispatched, Figures, Hops, Reading, Record, Ring, Row, Waiting, Writing};
+    use super::{Command, Delivery, Dispatched, Figures, Hops, Reading, Record, Ring, Row, RowBatch, Waiting, Writing};
 
     extern "C" {
+        pub fn vessel_version() -> u32;
         pub fn vessel_ring_fresh() -> Ring;
         pub fn vessel_ring_add_node(ring: &mut Ring, slots: u8) -> u8;
         pub fn vessel_ring_add_channel(ring: &mut Ring, sender: u8, receiver: u8) -> u8;
@@ -165,15 +177,22 @@ mod c {
         pub fn vessel_ring_hops_left(ring: &Ring, channel: u8) -> Hops;
         pub fn vessel_ring_waiting_set(ring: &Ring, node: u8) -> Waiting;
         pub fn vessel_ring_is_sound(ring: &Ring) -> u8;
+        pub fn vessel_record_in(bytes: *const u8, length: usize) -> Record;
         pub fn vessel_ring_to_hundredths(ring: &mut Ring) -> u8;
         pub fn vessel_history_note(table: *mut Row, rows: usize, record: Record) -> u8;
         pub fn vessel_history_close(table: *mut Row, rows: usize, batch: u32) -> u8;
         pub fn vessel_history_figures(table: *const Row, rows: usize, batch: u32) -> Figures;
+        pub fn vessel_history_batch(table: *const Row, rows: usize, row: usize) -> RowBatch;
         pub fn vessel_history_to_hundredths(table: *mut Row, rows: usize) -> u8;
         pub fn vessel_tape_read(bytes: *const u8, length: usize, place: usize) -> Reading;
         pub fn vessel_tape_write(bytes: *mut u8, length: usize, place: usize, command: Command) -> Writing;
         pub fn vessel_ring_list(tape: *const u8, length: usize, out: *mut u8, room: usize) -> usize;
     }
+}
+
+/// The library's version.
+pub fn version() -> u32 {
+    unsafe { c::vessel_version() }
 }
 
 impl Record {
@@ -184,6 +203,11 @@ impl Record {
         cells.copy_from_slice(name.as_bytes());
         record.name_length = name.len() as u8;
         Ok(record)
+    }
+
+    /// The record in bytes as a ring holds it; of fewer than 40, a record of zeros.
+    pub fn from_bytes(bytes: &[u8]) -> Record {
+        unsafe { c::vessel_record_in(bytes.as_ptr(), bytes.len()) }
     }
 }
 
@@ -290,6 +314,11 @@ pub fn close(table: &mut [Row], batch: u32) -> u8 {
 /// The figures of a batch in a history.
 pub fn figures(table: &[Row], batch: u32) -> Figures {
     unsafe { c::vessel_history_figures(table.as_ptr(), table.len(), batch) }
+}
+
+/// The batch of a row of a history; 0 where there is none.
+pub fn batch_in(table: &[Row], row: usize) -> RowBatch {
+    unsafe { c::vessel_history_batch(table.as_ptr(), table.len(), row) }
 }
 
 /// Turns a history held in tenths into one held in hundredths.

@@ -1,7 +1,7 @@
 //! The two-node ring of document 01, call by call, as examples/c/listing.c runs it; the output is the same.
 
-use vessel_ring::{close, figures, list, note, read, write};
-use vessel_ring::{Command, Delivery, Record, Ring, Row, HISTORY_ROWS, NOT_RESTING};
+use vessel_ring::{batch_in, close, figures, list, note, read, version, write};
+use vessel_ring::{Command, Delivery, Record, Ring, Row, HISTORY_ROWS, NOT_RESTING, VERSION};
 
 struct Listing {
     calls: u32,
@@ -144,6 +144,7 @@ fn taped() {
 }
 
 fn main() {
+    assert_eq!(version(), VERSION, "the library is of another version than its types here");
     let record = Record::named(7, 3, 612, "A1").expect("a name of two bytes"); // tenths, as on the tape of document 01
 
     let mut ring = Ring::fresh();
@@ -162,9 +163,11 @@ fn main() {
     listing.moved(ring.move_on(1));
     println!("end {} {}", listing.accepted, listing.refused);
     ring.send(0, Record { temperature: 6345, ..record }); // hundredths
+    assert_eq!(Record::from_bytes(&ring.offers[0]), Record { temperature: 6345, ..record });
     ring.receive(0);
     listing.dispatch(&mut ring);
     assert_eq!(ring.under_way(), 0);
+    assert_eq!((batch_in(&listing.history, 0).batch, batch_in(&listing.history, 1).batch), (7, 0));
     damaged(&ring);
     damaged_history(&listing.history);
     taped();

@@ -1,9 +1,9 @@
 //! calls COUNT SEED: makes COUNT calls of the library, each also on the model and, where the ring is sound, on the second model, and
 //! compares the answer and every byte of the ring after it.
 //! The rings come from runs from a fresh one, from hand-made ones, and from both with bytes changed. Besides, commands are read and
-//! written, rings held in tenths are turned into hundredths (turns.rs) and called on, and entries and moves are made in both orders
-//! (orders.rs). Fails on a difference, when a refusal from 1 to 28 or 30 was never answered, and when withdrawals, names (blanks.rs),
-//! temperatures, turned rings or pairs in both orders showed too little.
+//! written, the records in a ring's bytes are read, rings held in tenths are turned into hundredths (turns.rs) and called on, and entries
+//! and moves are made in both orders (orders.rs). Fails on a difference, when a refusal from 1 to 28 or 30 was never answered, and when
+//! withdrawals, records read, names (blanks.rs), temperatures, turned rings or pairs in both orders showed too little.
 
 mod blanks;
 mod orders;
@@ -14,7 +14,7 @@ use calls::form::{self, to_c};
 use calls::model::{Answer, Call, Network};
 use calls::tape::{self, Read};
 use calls::{draw, library, second};
-use common::layout::{first_difference, put_temperature, LENGTH};
+use common::layout::{first_difference, put_temperature, record_in, LENGTH};
 use common::program::{self, Shown};
 use common::random::Random;
 use common::sights::Sights;
@@ -24,10 +24,10 @@ use second_model::coverage::Temperatures;
 use second_model::ring::Unit;
 use std::process::ExitCode;
 use turns::{Turns, Waiting};
-use vessel_ring::{Command, Reading, Ring};
+use vessel_ring::{Command, Reading, Record, Ring};
 
-/// What has to be seen of withdrawals, and of the two commands that send.
-const SIGHTS: [&str; 7] = [
+/// What has to be seen of withdrawals, of the two commands that send, and of records read from the bytes of a ring.
+const SIGHTS: [&str; 10] = [
     "withdraw: accepted",
     "withdraw: a mark cleared, of a line left empty",
     "withdraw: a mark kept, of a line whose first was taken out",
@@ -35,6 +35,9 @@ const SIGHTS: [&str; 7] = [
     "read: command 25",
     "written: command 21",
     "written: command 25",
+    "record read: offered",
+    "record read: carried, below zero",
+    "record read: of bytes too few",
 ];
 
 /// What was seen.
@@ -303,6 +306,24 @@ fn compare_reading(tape: &[u8], place: usize, tally: &mut Tally) -> Result<(), S
     Ok(())
 }
 
+/// The records in the bytes of a ring, sound or not, and in the first bytes of one.
+fn records(ring: &Ring, random: &mut Random, tally: &mut Tally) -> Result<(), String> {
+    for bytes in ring.offers.iter().chain(&ring.carried) {
+        let (given, expected) = (Record::from_bytes(bytes), record_in(bytes));
+        if given != expected {
+            return Err(format!("a record read from {bytes:?}: {given:?}, not {expected:?}"));
+        }
+    }
+    let short = &ring.offers[random.below(64)][..random.below(40)];
+    if Record::from_bytes(short) != Record::default() {
+        return Err(format!("a record read from the bytes {short:?}, which are too few"));
+    }
+    tally.sights.see(!short.is_empty(), "record read: of bytes too few");
+    tally.sights.see(ring.offered.contains(&1), "record read: offered");
+    tally.sights.see(ring.carried.iter().any(|bytes| record_in(bytes).temperature < 0), "record read: carried, below zero");
+    Ok(())
+}
+
 /// All bytes FF: refused by all ten calls.
 fn all_ff(tally: &mut Tally, random: &mut Random) -> Result<(), String> {
     let mut pair = Pair::of(Ring::from_bytes(&[0xFF; LENGTH]));
@@ -323,6 +344,8 @@ fn compare(count: u64, seed: u64) -> Result<Shown, String> {
         let mut random = Random::of_run(seed, run);
         let in_run = |difference| format!("seed {seed}, run {run}: {difference}");
         let pair = sound_run(&mut random, tally).map_err(in_run)?;
+        records(&pair.ring, &mut random, tally).map_err(in_run)?;
+        records(&changed(&pair.ring, &mut random), &mut random, tally).map_err(in_run)?;
         for _ in 0..3 {
             damaged_run(&pair.ring, &mut random, tally).map_err(in_run)?;
         }

@@ -6,16 +6,17 @@ use crate::tally::{Seen, Tally};
 use second_model::history::{self as model, History};
 use second_model::ring::{BatchNumber, Record};
 use std::ops::Range;
-use vessel_ring::{close, figures, note, Figures, Row, HISTORY_ROWS};
+use vessel_ring::{batch_in, close, figures, note, Figures, Row, RowBatch, HISTORY_ROWS};
 
 /// A row that stands before the lent table and behind it. It is no sound row: to read it shows as well as to write it.
 pub const STRANGE: Row = Row { batch: 0xA5A5_A5A5, count: 0xA5A5_A5A5, readings: [-0x5A5B; vessel_ring::READINGS] };
 
-/// What a call answers: a refusal's number or 0, or figures.
+/// What a call answers: a refusal's number or 0, or figures, or a batch.
 #[derive(Clone, Copy, PartialEq, Eq, Debug)]
 enum Answer {
     Plain(u8),
     Figures(Figures),
+    Batch(RowBatch),
 }
 
 impl Answer {
@@ -23,6 +24,7 @@ impl Answer {
         match self {
             Answer::Plain(refusal) => refusal,
             Answer::Figures(figures) => figures.refusal,
+            Answer::Batch(batch) => batch.refusal,
         }
     }
 }
@@ -95,7 +97,7 @@ impl Pair {
         match call {
             Call::Note(record) => self.lists.note(record.number.0, record.temperature),
             Call::Close(batch) => self.lists.close(batch),
-            Call::Figures(_) => {}
+            Call::Figures(_) | Call::Batch(_) => {}
         }
     }
 
@@ -130,6 +132,7 @@ fn library(table: &mut [Row], call: Call) -> Answer {
         Call::Note(record) => Answer::Plain(note(table, to_c(record))),
         Call::Close(batch) => Answer::Plain(close(table, batch)),
         Call::Figures(batch) => Answer::Figures(figures(table, batch)),
+        Call::Batch(row) => Answer::Batch(batch_in(table, row)),
     }
 }
 
@@ -141,6 +144,7 @@ fn by_model(history: &mut History, call: Call) -> Answer {
             Answer::Plain(0)
         }
         Call::Figures(batch) => Answer::Figures(history.figures(BatchNumber(batch)).map_or(Figures::default(), held)),
+        Call::Batch(row) => Answer::Batch(RowBatch { batch: history.batch(row).map_or(0, |number| number.0), refusal: 0 }),
     }
 }
 
@@ -153,6 +157,7 @@ fn held(figures: model::Figures) -> Figures {
 fn refused(call: Call, refusal: u8) -> Answer {
     match call {
         Call::Figures(_) => Answer::Figures(Figures { refusal, ..Figures::default() }),
+        Call::Batch(_) => Answer::Batch(RowBatch { refusal, ..RowBatch::default() }),
         _ => Answer::Plain(refusal),
     }
 }

@@ -10,6 +10,7 @@ pub enum Call {
     Note(Record),
     Close(u32),
     Figures(u32),
+    Batch(usize),
 }
 
 /// Temperatures in range: any of them, at the edges too, or few, so that equal ones meet.
@@ -119,11 +120,19 @@ impl Script {
         Call::Figures(self.any_batch(random))
     }
 
+    /// The batch of a row, sometimes of one that no table has.
+    pub fn batch_in(&self, random: &mut Random) -> Call {
+        let row = random.below(HISTORY_ROWS);
+        Call::Batch(random.pick(&[row, row, row, 0, HISTORY_ROWS - 1, HISTORY_ROWS, row + HISTORY_ROWS, usize::MAX]))
+    }
+
     pub fn call(&self, random: &mut Random) -> Call {
         if random.below(1000) < self.closes {
             self.close(random)
         } else if random.percent(70) {
             Call::Note(self.record(random))
+        } else if random.percent(20) {
+            self.batch_in(random)
         } else {
             self.figures(random)
         }

@@ -21,7 +21,7 @@ use std::process::ExitCode;
 use tally::{Tally, LENGTHS};
 use vessel_ring::{Row, HISTORY_ROWS, READINGS};
 
-/// All three calls on a table that is to be refused, with a good and a bad record.
+/// All four calls on a table that is to be refused, with a good and a bad record.
 fn refused_calls(pair: &mut Pair, script: &Script, random: &mut Random, tally: &mut Tally) -> Result<(), String> {
     if pair.is_sound() {
         return Err("the model takes it for sound".to_string());
@@ -29,7 +29,8 @@ fn refused_calls(pair: &mut Pair, script: &Script, random: &mut Random, tally: &
     pair.call(Call::Note(script.record(random)), tally)?;
     pair.call(Call::Note(script.bad_record(random)), tally)?;
     pair.call(script.close(random), tally)?;
-    pair.call(script.figures(random), tally)
+    pair.call(script.figures(random), tally)?;
+    pair.call(script.batch_in(random), tally)
 }
 
 /// A copy of a sound table, damaged.
@@ -77,13 +78,14 @@ fn scripted(random: &mut Random, tally: &mut Tally) -> Result<(), String> {
     script.batches.iter().try_for_each(|&batch| pair.call(Call::Figures(batch), tally))
 }
 
-/// One of the three calls, each in its turn, on a table that is to be refused.
+/// One of the four calls, each in its turn, on a table that is to be refused.
 fn one_refused(table: &[Row], turn: usize, random: &mut Random, tally: &mut Tally) -> Result<(), String> {
     let batch = table[turn % HISTORY_ROWS].batch;
-    let call = match turn % 3 {
+    let call = match turn % 4 {
         0 => Call::Note(good_record(random)),
         1 => Call::Close(batch),
-        _ => Call::Figures(batch),
+        2 => Call::Figures(batch),
+        _ => Call::Batch(turn % HISTORY_ROWS),
     };
     let mut pair = Pair::new(table, HISTORY_ROWS);
     if pair.is_sound() {

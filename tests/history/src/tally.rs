@@ -11,7 +11,7 @@ use second_model::ring::{Record, Unit};
 use vessel_ring::{Row, HISTORY_ROWS, READINGS};
 
 /// What accepted calls have to show, and those that turn a table or refuse to.
-const SIGHTS: [&str; 47] = [
+const SIGHTS: [&str; 53] = [
     "note: a first reading",
     "note: of several empty rows the lowest, with rows in use behind it",
     "note: the row that a close of a full table left, between others",
@@ -38,6 +38,12 @@ const SIGHTS: [&str; 47] = [
     "figures: none, after a close",
     "figures: none, batch 0",
     "figures: a sum that does not fit 16 bits",
+    "figures: of 24 readings",
+    "batch: of the first row",
+    "batch: of a row between others",
+    "batch: of the last row",
+    "batch: none, an empty row",
+    "batch: none, no such row",
     "turned: an empty table",
     "turned: all rows in use",
     "turned: the first row",
@@ -161,6 +167,7 @@ impl Tally {
             Call::Note(record) => self.noted(seen, &record),
             Call::Close(batch) => self.closed(seen, batch),
             Call::Figures(batch) => self.asked(seen, batch),
+            Call::Batch(row) => self.looked_up(seen, row),
         }
     }
 
@@ -214,11 +221,21 @@ impl Tally {
         let readings = seen.lists.length(batch);
         self.see(readings > 0, "figures: of a batch with a row");
         self.see(readings >= 1000, "figures: after a thousand readings since the last close");
+        self.see(readings == READINGS, "figures: of 24 readings");
         self.see(readings == 0, "figures: none");
         self.see(readings == 0 && seen.lists.was_closed(batch), "figures: none, after a close");
         self.see(batch == 0, "figures: none, batch 0");
         let sum = seen.lists.figures(batch).sum;
         self.see(sum != i32::from(sum as i16), "figures: a sum that does not fit 16 bits");
+    }
+
+    fn looked_up(&mut self, seen: &Seen, row: usize) {
+        let in_use = seen.before.get(row).map(|row| row.batch != 0);
+        self.see(row == 0 && in_use == Some(true), "batch: of the first row");
+        self.see(between(row) && in_use == Some(true), "batch: of a row between others");
+        self.see(row == LAST && in_use == Some(true), "batch: of the last row");
+        self.see(in_use == Some(false), "batch: none, an empty row");
+        self.see(in_use.is_none(), "batch: none, no such row");
     }
 
     /// A table that was turned, or refused, as it was before.

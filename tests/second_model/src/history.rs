@@ -117,6 +117,12 @@ impl History {
         })
     }
 
+    /// The batch of a row; nothing for an empty row, and for one that a table of 128
+    /// rows does not have.
+    pub fn batch(&self, row: usize) -> Option<BatchNumber> {
+        self.rows.get(row)?.as_ref().map(|batch| batch.number)
+    }
+
     /// Nothing for batch number 0, which "never has a row".
     pub fn row_of(&self, number: BatchNumber) -> Option<usize> {
         let is_it = |row: &Option<Batch>| row.as_ref().is_some_and(|batch| batch.number == number);
