@@ -67,6 +67,15 @@ fn the_oldest_makes_way() {
 }
 
 #[test]
+fn the_batches_row_by_row() {
+    let mut history = full();
+    history.close(BatchNumber(2));
+    let batches: Vec<Option<u32>> = (0..130).map(|row| history.batch(row).map(|batch| batch.0)).collect();
+    assert_eq!(batches[..3], [Some(1), None, Some(3)]);
+    assert_eq!(batches[126..], [Some(127), Some(128), None, None]);
+}
+
+#[test]
 fn the_lowest_is_not_kept_when_it_left() {
     let mut history = History::empty();
     note_all(&mut history, 7, [-4000]);
