@@ -25,11 +25,11 @@ from tape import (LONGEST_TAPE, REFUSALS, Parser, TextError, is_text, tape_with_
 
 ROOT = Path(__file__).resolve().parent.parent
 FAILED, WRONG, NOT_READ = 1, 2, 3
-STATUSES = """Exit status: 0 the tape was read to its end, whatever its commands were
-answered; 1 a file, the build or the tape program fails; 2 the text or usage is
-wrong; 3 the tape was not read to its end: it is too long, or has a command that
-is unknown or cut off (refusals 22 and 23). What is wrong is told on standard
-error."""
+STATUSES = """Exit status: 0 the tape was run, whatever its commands were answered; 1 a file,
+the build or the tape program fails; 2 the text or usage is wrong; 3, where
+--whole asks for it, the tape was not read to its end: it is too long, or has a
+command that is unknown or cut off (refusals 22 and 23). What is wrong is told
+on standard error."""
 # An input without end is read so far: as text it is refused, as a tape it is too long.
 LONGEST_INPUT = 1 << 24
 PROGRAM = ROOT / "crates/run_tape/out/run_tape"
@@ -135,7 +135,8 @@ def run(options):
     build()
     listing = listing_of(tape)
     write_output(tape_with_meaning(tape, listing.decode("ascii")).encode("ascii") if options.with_meaning else listing)
-    check_whole(options.tape, tape, listing)
+    if options.whole:
+        check_whole(options.tape, tape, listing)
 
 
 def parse_arguments():
@@ -146,6 +147,7 @@ def parse_arguments():
     form.add_argument("--binary", dest="form", action="store_const", const="binary", help="the tape is not text")
     parser.add_argument("--with-meaning", action="store_true",
                         help="in place of the listing print the tape as text, with what each command says and what was answered")
+    parser.add_argument("--whole", action="store_true", help="say so, and end with 3, where the tape was not read to its end")
     return parser.parse_args()
 
 

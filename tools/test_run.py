@@ -59,7 +59,7 @@ class Forms(ToolTest):
         with tempfile.TemporaryDirectory() as folder:
             text = Path(folder, "plan")
             text.write_bytes(b"#\nstart")  # as bytes: move 10, then the unknown command 73
-            self.assertEqual(run_with(text)[:2], (3, b"1 23 8\n2 73 22\nend 0 2\n"))
+            self.assertEqual(run_with("--whole", text)[:2], (3, b"1 23 8\n2 73 22\nend 0 2\n"))
             self.assertEqual(run_with("--text", text), (0, b"1 12 6\nend 0 1\n", ""))
             tape = Path(folder, "plan.txt")
             tape.write_bytes(LISTING.read_bytes())
@@ -67,7 +67,7 @@ class Forms(ToolTest):
 
     def test_a_form_that_is_given_rules(self):
         self.assertEqual(run_with("-", input=b"#\nstart"), (0, b"1 12 6\nend 0 1\n", ""))
-        self.assertEqual(run_with("--binary", "-", input=b"#\nstart")[:2], (3, b"1 23 8\n2 73 22\nend 0 2\n"))
+        self.assertEqual(run_with("--whole", "--binary", "-", input=b"#\nstart")[:2], (3, b"1 23 8\n2 73 22\nend 0 2\n"))
         self.assertEqual(run_with("--text", "-", input=b"#\x01\nstart"), (0, b"1 12 6\nend 0 1\n", ""))
         self.assertEqual(run_with("-", input=b""), (0, b"end 0 0\n", ""))
 
@@ -76,7 +76,7 @@ class Forms(ToolTest):
         self.assertEqual((status, err), (0, ""))
         self.assertIn(b"\nreceive 0                   # channel 0 asks for a record: refused 10, the channel is not resting\n", out)
         self.assertEqual(run_with("-", input=out), (0, LISTED, ""))
-        self.told(run_with("--with-meaning", "-", input=b"\x12\x7f"), 3, "refused 22",
+        self.told(run_with("--whole", "--with-meaning", "-", input=b"\x12\x7f"), 3, "refused 22",
                   b"start                       # the plan is closed, the ring runs: refused 6, there is no node or no channel\n"
                   b"bytes 7f                    # begins no whole command: refused 22, the command byte is unknown\n"
                   b"# 0 accepted, 2 refused\n")
@@ -86,25 +86,29 @@ class Forms(ToolTest):
 
 
 class NotReadToItsEnd(ToolTest):
+    def test_only_where_it_is_asked(self):
+        self.assertEqual(run_with("-", input=b"\x12\x7f\x12"), (0, b"1 12 6\n2 7f 22\nend 0 2\n", ""))
+        self.assertEqual(run_with("-", input=60_001 * b"\x12"), (0, b"too long\n", ""))
+
     def test_too_long(self):
         longest = 60_000 * b"\x12"
         self.assertEqual(run_with("-", input=longest)[0], 0)
-        self.told(run_with("-", input=longest + b"\x12"), 3, "too long: a tape has at most 60000 bytes", b"too long\n")
+        self.told(run_with("--whole", "-", input=longest + b"\x12"), 3, "too long: a tape has at most 60000 bytes", b"too long\n")
 
     def test_input_without_end(self):
         with open("/dev/zero", "rb") as zeros:
-            self.told(run_with("-", stdin=zeros), 3, "too long: a tape has at most 60000 bytes", b"too long\n")
+            self.told(run_with("--whole", "-", stdin=zeros), 3, "too long: a tape has at most 60000 bytes", b"too long\n")
         self.told(run_with("-", input=(1 << 24) * b"\n"), 2, "a text of 16777216 bytes or more is too long")
 
     def test_unknown_and_cut(self):
-        self.told(run_with("-", input=b"\x12\x7f\x12"), 3, "-: command 2, 7f: refused 22, the command byte is unknown; "
+        self.told(run_with("--whole", "-", input=b"\x12\x7f\x12"), 3, "-: command 2, 7f: refused 22, the command byte is unknown; "
                   "2 of 3 bytes, from byte 1 on, were not read", b"1 12 6\n2 7f 22\nend 0 2\n")
-        self.told(run_with("-", input=b"\x12\x23"), 3, "-: command 2, 23: refused 23, the command is cut off; "
+        self.told(run_with("--whole", "-", input=b"\x12\x23"), 3, "-: command 2, 23: refused 23, the command is cut off; "
                   "1 of 2 bytes, from byte 1 on, were not read", b"1 12 6\n2 23 23\nend 0 2\n")
 
     def test_text_that_is_not_known_as_text(self):
         text = b"start # \x01\n"
-        self.told(run_with("-", input=text), 3, "were not read (is it text? --text says so)", b"1 73 22\nend 0 1\n")
+        self.told(run_with("--whole", "-", input=text), 3, "were not read (is it text? --text says so)", b"1 73 22\nend 0 1\n")
         self.assertEqual(run_with("--text", "-", input=text), (0, b"1 12 6\nend 0 1\n", ""))
 
     def test_tape_that_is_said_to_be_text(self):

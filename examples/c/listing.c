@@ -68,7 +68,7 @@ static void ask(uint8_t channel)
    always enough; a controller that has other work to do gives fewer, and calls again later. */
 static void dispatch(void)
 {
-    uint16_t enough = vessel_rounds_enough(&ring);
+    uint16_t enough = (uint16_t)(ring.channel_count * (2 * ring.node_count + 2));
     struct vessel_dispatched answer = vessel_ring_dispatch(&ring, enough);
     int i;
     printf("dispatched %u: %u of %u rounds, %u delivery\n", answer.refusal, answer.rounds, enough, answer.count);
@@ -151,8 +151,12 @@ static void taped(void)
 int main(void)
 {
     struct vessel_record record;
-    if (vessel_version() != VESSEL_VERSION || vessel_record_make(&record, 7, 3, 612, "A1") != VESSEL_DONE) /* tenths, as on document 01's tape */
-        return 1;
+    memset(&record, 0, sizeof record);
+    record.batch = 7;
+    record.vessel = 3;
+    record.temperature = 612; /* tenths, as on the tape of document 01 */
+    record.name_length = 2;
+    memcpy(record.name, "A1", 2);
 
     ring = vessel_ring_fresh();
     plain(0x10, vessel_ring_add_node(&ring, 1));

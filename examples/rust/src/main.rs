@@ -52,7 +52,8 @@ impl Listing {
     /// Entries and moves in one call: it runs the ring until nothing is on it, and hands over all that was delivered. c × (2n + 2) rounds
     /// are always enough; a controller that has other work to do gives fewer, and calls again later.
     fn dispatch(&mut self, ring: &mut Ring) {
-        let enough = ring.rounds_enough();
+        let enough = u16::from(ring.channel_count) * (2 * u16::from(ring.node_count) + 2);
+        assert_eq!(ring.rounds_enough(), enough);
         let answer = ring.dispatch(enough);
         println!("dispatched {}: {} of {enough} rounds, {} delivery", answer.refusal, answer.rounds, answer.count);
         for (channel, record) in answer.deliveries() {
@@ -145,7 +146,10 @@ fn taped() {
 
 fn main() {
     assert_eq!(version(), VERSION, "the library is of another version than its types here");
-    let record = Record::named(7, 3, 612, "A1").expect("a name of two bytes"); // tenths, as on the tape of document 01
+    let mut name = [0; 32];
+    name[..2].copy_from_slice(b"A1");
+    let record = Record { batch: 7, vessel: 3, temperature: 612, name_length: 2, name }; // tenths, as on the tape of document 01
+    assert_eq!(Record::named(7, 3, 612, "A1").ok(), Some(record));
 
     let mut ring = Ring::fresh();
     let mut listing = Listing::new();

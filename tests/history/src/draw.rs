@@ -131,8 +131,6 @@ impl Script {
             self.close(random)
         } else if random.percent(70) {
             Call::Note(self.record(random))
-        } else if random.percent(20) {
-            self.batch_in(random)
         } else {
             self.figures(random)
         }

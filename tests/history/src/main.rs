@@ -67,6 +67,9 @@ fn scripted(random: &mut Random, tally: &mut Tally) -> Result<(), String> {
     }
     for _ in 0..script.length {
         pair.call(script.call(random), tally)?;
+        if random.percent(5) {
+            pair.call(script.batch_in(random), tally)?;
+        }
         if random.percent(3) {
             damaged(pair.table(), &script, random, tally)?;
         }
@@ -78,20 +81,20 @@ fn scripted(random: &mut Random, tally: &mut Tally) -> Result<(), String> {
     script.batches.iter().try_for_each(|&batch| pair.call(Call::Figures(batch), tally))
 }
 
-/// One of the four calls, each in its turn, on a table that is to be refused.
+/// One of the three calls, each in its turn, on a table that is to be refused; and the batch of a row.
 fn one_refused(table: &[Row], turn: usize, random: &mut Random, tally: &mut Tally) -> Result<(), String> {
     let batch = table[turn % HISTORY_ROWS].batch;
-    let call = match turn % 4 {
+    let call = match turn % 3 {
         0 => Call::Note(good_record(random)),
         1 => Call::Close(batch),
-        2 => Call::Figures(batch),
-        _ => Call::Batch(turn % HISTORY_ROWS),
+        _ => Call::Figures(batch),
     };
     let mut pair = Pair::new(table, HISTORY_ROWS);
     if pair.is_sound() {
         return Err(format!("the model takes it for sound: {table:?}"));
     }
-    pair.call(call, tally)
+    pair.call(call, tally)?;
+    pair.call(Call::Batch(turn % HISTORY_ROWS), tally)
 }
 
 /// Batches 1 to 128 with so many readings each.
