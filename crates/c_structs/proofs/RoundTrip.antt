@@ -19,10 +19,9 @@ use Rattle.tape.specs.Shape.{width_of}
 use Rattle.tape.specs.Table.{row_of, parts_of, shape_of, plain}
 use Rattle.tape.specs.Tape.{read_at, write_at, after_write}
 use Rattle.tape.specs.RoundTrip.{OperandsFit}
-use Rattle.tape.proofs.CommandTable.{some_bytes}
+use Rattle.tape.proofs.CommandTable.{made_again, some_bytes, operands-kept}
 use Rattle.tape.proofs.Shapes.{fields-once}
 use Rattle.tape.proofs.RoundTrip as tape
-use Rattle.c_structs.proofs.Operands.{made_again, operands-kept}
 use Rattle.c_structs.specs.declared.Command.{Command}
 use Rattle.c_structs.specs.declared.Writing as told
 use Rattle.c_structs.specs.declared.commands.Wanted.{Wanted}

@@ -3,7 +3,7 @@
 ghost use Rattle.std.specs.Prelude.{IfSome, OnOk};
 ghost use Rattle.std.specs.Io.KnownBytes.{Appends};
 ghost use Rattle.runner.specs.Listing.{listing_of};
-ghost use Rattle.run_tape.specs.Input.{Within, IsFront};
+ghost use Rattle.run_tape.specs.Input.{Within, IsFront, NothingPrinted};
 
 use runner::Session;
 use std::io::{Read, Write};
@@ -63,9 +63,10 @@ pub fn print_listing<W: Write>(tape: &[u8], output: &mut W) -> io::Result<()>
     Ok(())
 }
 
-// Prints the listing of the tape that the input holds.
+// Prints the listing of the tape that the input holds. Where the input cannot be read, nothing is printed.
 pub fn list_input<R: Read, W: Write>(input: &mut R, output: &mut W) -> Result<(), Failure>
-    ensures { OnOk result (IfSome (R.remaining input.old) (λ tape. Appends (W.contents output.old) (W.contents output.new) (listing_of tape))) }
+    ensures listed { OnOk result (IfSome (R.remaining input.old) (λ tape. Appends (W.contents output.old) (W.contents output.new) (listing_of tape))) }
+    ensures unread { NothingPrinted result (W.contents output.old) (W.contents output.new) }
 {
     // One byte more than the longest tape: with it the tape is too long, whatever follows.
     let mut tape = [0u8; runner::LONGEST_TAPE + 1];

@@ -10,6 +10,7 @@ use borrow.Author.Rules.{rules}
 use borrow.Author.Tests.{ne_eqb, eqb-true}
 use lib.Dec.{eqb}
 use lib.ListN.{length, get_or, take, drop}
+use Rattle.numbers.proofs.Splits.{by-test}
 use Rattle.batch.specs.declared.sending.Fields.{Fields}
 use Rattle.batch.specs.declared.sending.Scale.TheVariants.{Tenths, Hundredths}
 use Rattle.wire.specs.Bytes.{number_at, Bytes}
@@ -51,7 +52,7 @@ record Fair (r : Row) : Type 0 where
       → bytes_with r.shape (parts_of (r.action a b)) x ≡ bytes_with r.shape (record { code = r.code; first = a; second = b }) x
   no-others : (a b c d : ℕ) → r.action (cond (has_first r.shape) a c) (cond (has_second r.shape) b d) ≡ r.action a b
 
-abbrev All : (Row → Type 0) → List Row → Type 0
+abbrev pub All : (Row → Type 0) → List Row → Type 0
 All P [] = Unit {0}
 All P (r ∷ rows) = P r × All P rows
 
@@ -105,11 +106,34 @@ made (Enter node) = search rules
 made (Move node) = search rules
 made (Withdraw channel) = search rules
 
+-- an action's numbers make the action again
+pub made_again : (a : Action) → (row_of (parts_of a).code).action (parts_of a).first (parts_of a).second ≡ a
+made_again a = (made a).is
+
 pub some_bytes : (a : Action) → 0 < width_of (shape_of a)
 some_bytes a = (made a).some
 
 pub code-byte : (a : Action) → (parts_of a).code < 256
 code-byte a = (made a).byte
+
+-- an action that a row makes has the operands that it is made of, or 0
+abbrev pub Kept : Row → Type 0
+Kept r = (a b : ℕ) → a < 256 → b < 256 → OperandsFit (r.action a b)
+
+all-kept : All Kept commands
+unfolding commands
+all-kept =
+    (search rules, (search rules, (search rules, (search rules, (search rules, (search rules, (search rules, (search rules, (search rules, tt)))))))))
+
+find-kept : (code : ℕ) (rows : List Row) → All Kept rows → Kept (find code rows)
+unfolding find
+find-kept code [] all = λ a b f g. search rules
+find-kept code (r ∷ rows) all =
+    by-test (eqb code r.code) (λ e. rw e all.0) λ e. rw e (find-kept code rows all.1)
+
+pub operands-kept : (code : ℕ) → Kept (row_of code)
+unfolding row_of
+operands-kept code = find-kept code commands all-kept
 
 -- a command is as many bytes as its width
 pub length-bytes_of : (c : Command) → FieldsFit c.fields → length (bytes_of c) ≡ width c
