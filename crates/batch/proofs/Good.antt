@@ -6,14 +6,13 @@ use Prim.Native.Nat.{◌≤◌, ◌<◌, ◌^◌}
 use native.Mathlib.Omega.{arith}
 use lib.Dec.{lit≤}
 use lib.ListN.{length}
-use borrow.Author.Tests.{eq-eqb, ne_eqb, le-leb, lt-leb, lt-ltb}
+use borrow.Author.Tests.{eq-eqb, ne_eqb, le-leb, lt-leb, lt-ltb, leb-true}
+use Rattle.std.specs.Prelude.{Ok, Err, is_ok}
 use Rattle.refusal.specs.declared.Refusal.{Refusal}
 use Rattle.refusal.specs.declared.Refusal.TheVariants.{BatchNumberZero, TemperatureOutOfRange, NameTooLong, BadName, BlankEnd}
-use Rattle.refusal.specs.declared.Verdict.{Verdict}
 use Rattle.numbers.proofs.Splits.{by-test}
-use Rattle.refusal.specs.declared.Verdict.TheVariants.{Passed, Refused}
-use Rattle.refusal.specs.Number.{verdict_number}
-use Rattle.refusal.proofs.Verdicts.{has_passed, has-passed, zero-passed}
+use Rattle.refusal.specs.Number.{Verdict, verdict_number}
+use Rattle.refusal.proofs.Verdicts.{has-passed, zero-passed}
 use Rattle.batch.specs.declared.BatchRecord.{BatchRecord}
 use Rattle.batch.specs.Good.{in_range, name_limit, batch_good, temp_good, name_length_good, name_good, widths_good}
 use Rattle.batch.specs.Good.{good_record, verdict_of, blank_ends, send_verdict, GoodExactly, GoodIsZero, GoodNumber, SentExactly, Means30}
@@ -55,25 +54,25 @@ module _ (r : BatchRecord) where
       lt-ltb r.batch.0 (2 ^ 32) number i && lt-ltb r.vessel 256 vessel i && eq-eqb (length r.name) name_limit cells i
 
   -- the first refusal that applies, given the clauses before it
-  pub verdict-batch : batch_good r ≡ false → verdict_of r ≡ Refused BatchNumberZero
+  pub verdict-batch : batch_good r ≡ false → verdict_of r ≡ Err BatchNumberZero
   unfolding verdict_of
   verdict-batch b = rw b
 
-  pub verdict-temp : batch_good r ≡ true → temp_good r ≡ false → verdict_of r ≡ Refused TemperatureOutOfRange
+  pub verdict-temp : batch_good r ≡ true → temp_good r ≡ false → verdict_of r ≡ Err TemperatureOutOfRange
   unfolding verdict_of
   verdict-temp b t = rw (b, t)
 
-  pub verdict-length : batch_good r ≡ true → temp_good r ≡ true → name_length_good r ≡ false → verdict_of r ≡ Refused NameTooLong
+  pub verdict-length : batch_good r ≡ true → temp_good r ≡ true → name_length_good r ≡ false → verdict_of r ≡ Err NameTooLong
   unfolding verdict_of
   verdict-length b t l = rw (b, t, l)
 
   pub verdict-name : batch_good r ≡ true → temp_good r ≡ true → name_length_good r ≡ true → name_good r ≡ false
-      → verdict_of r ≡ Refused BadName
+      → verdict_of r ≡ Err BadName
   unfolding verdict_of
   verdict-name b t l n = rw (b, t, l, n)
 
   pub verdict-good : batch_good r ≡ true → temp_good r ≡ true → name_length_good r ≡ true → name_good r ≡ true
-      → widths_good r ≡ true → verdict_of r ≡ Passed
+      → widths_good r ≡ true → verdict_of r ≡ Ok tt
   unfolding verdict_of
   verdict-good b t l n w = rw (b, t, l, n, w)
 
@@ -87,9 +86,9 @@ module _ (r : BatchRecord) where
       let t = (and-eq-true_iff (batch_good r) (temp_good r)).0 l.0 in
       record { number = t.0; degrees = t.1; size = l.1; name = n.1; widths = w.1 }
 
-  pub good_record-passed : good_record r ≡ has_passed (verdict_of r)
+  pub good_passes : good_record r ≡ is_ok (verdict_of r)
   unfolding good_record verdict_of
-  good_record-passed =
+  good_passes =
       by-test (batch_good r) (λ b.
       by-test (temp_good r) (λ t.
       by-test (name_length_good r) (λ l.
@@ -100,36 +99,41 @@ module _ (r : BatchRecord) where
 
 pub good-exactly : GoodExactly
 good-exactly r =
-    (λ e. has-passed (verdict_of r) (sym (good_record-passed r) ∙ e), λ e. good_record-passed r ∙ ap has_passed e)
+    (λ e. has-passed (verdict_of r) (sym (good_passes r) ∙ e), λ e. good_passes r ∙ ap is_ok e)
 
 pub good-is-zero : GoodIsZero
 good-is-zero r = (λ e. ap verdict_number ((good-exactly r).0 e), λ e. (good-exactly r).1 (zero-passed (verdict_of r) e))
+
+-- the name of a record that has passed has no more characters than cells
+pub name_within : (r : BatchRecord) → verdict_of r ≡ Ok tt → r.name_length ≤ name_limit
+unfolding name_length_good
+name_within r passed = leb-true r.name_length name_limit (good-clauses r ((good-exactly r).1 passed)).size
 
 pub good-number : GoodNumber
 good-number r e z = false≢true (sym (batch-zero r z) ∙ (good-clauses r e).number)
 
 -- ---- what send asks
 module _ (r : BatchRecord) where
-  pub sent-bad : (x : Refusal) → verdict_of r ≡ Refused x → send_verdict r ≡ Refused x
+  pub sent-bad : (x : Refusal) → verdict_of r ≡ Err x → send_verdict r ≡ Err x
   unfolding send_verdict
   sent-bad x bad = rw bad
 
-  pub sent-blank : verdict_of r ≡ Passed → blank_ends r ≡ true → send_verdict r ≡ Refused BlankEnd
+  pub sent-blank : verdict_of r ≡ Ok tt → blank_ends r ≡ true → send_verdict r ≡ Err BlankEnd
   unfolding send_verdict
   sent-blank good ends = rw (good, ends)
 
-  pub sent-taken : verdict_of r ≡ Passed → blank_ends r ≡ false → send_verdict r ≡ Passed
+  pub sent-taken : verdict_of r ≡ Ok tt → blank_ends r ≡ false → send_verdict r ≡ Ok tt
   unfolding send_verdict
   sent-taken good ends = rw (good, ends)
 
   -- by what is asked of every record, and then by the ends of the name
-  module _ (P : Verdict → Type 0) (bad : (x : Refusal) → verdict_of r ≡ Refused x → P (Refused x))
-      (ends : good_record r ≡ true → blank_ends r ≡ true → P (Refused BlankEnd)) (fine : good_record r ≡ true → blank_ends r ≡ false → P Passed) where
+  module _ (P : Verdict → Type 0) (bad : (x : Refusal) → verdict_of r ≡ Err x → P (Err x))
+      (ends : good_record r ≡ true → blank_ends r ≡ true → P (Err BlankEnd)) (fine : good_record r ≡ true → blank_ends r ≡ false → P (Ok tt)) where
     by-verdict : (v : Verdict) → verdict_of r ≡ v → P (send_verdict r)
-    by-verdict Passed e =
+    by-verdict (Ok u) e =
         let good = (good-exactly r).1 e in
         by-test (blank_ends r) (λ b. rw (sent-blank e b) (ends good b)) (λ b. rw (sent-taken e b) (fine good b))
-    by-verdict (Refused x) e = rw (sent-bad x e) (bad x e)
+    by-verdict (Err x) e = rw (sent-bad x e) (bad x e)
 
     by-ends : P (send_verdict r)
     by-ends = by-verdict (verdict_of r) refl
@@ -146,18 +150,18 @@ module _ (r : BatchRecord) where
 
 pub sent-exactly : SentExactly
 sent-exactly r = (
-  by-ends r (λ v. v ≡ Passed → (good_record r ≡ true) × (blank_ends r ≡ false))
-      (λ x _ e. absurd (false≢true (ap has_passed e)))
-      (λ _ _ e. absurd (false≢true (ap has_passed e)))
+  by-ends r (λ v. v ≡ Ok tt → (good_record r ≡ true) × (blank_ends r ≡ false))
+      (λ x _ e. absurd (false≢true (ap is_ok e)))
+      (λ _ _ e. absurd (false≢true (ap is_ok e)))
       (λ g b _. (g, b)),
   λ h. sent-taken r ((good-exactly r).0 h.0) h.1,
 )
 
 pub means-30 : Means30
 means-30 r = (
-  by-ends r (λ v. v ≡ Refused BlankEnd → (good_record r ≡ true) × (blank_ends r ≡ true))
+  by-ends r (λ v. v ≡ Err BlankEnd → (good_record r ≡ true) × (blank_ends r ≡ true))
       (λ x bad e. absurd (omega (arith, verdict-most r, ap verdict_number (bad ∙ e))))
       (λ g b _. (g, b))
-      (λ _ _ e. absurd (false≢true (sym (ap has_passed e)))),
+      (λ _ _ e. absurd (false≢true (sym (ap is_ok e)))),
   λ h. sent-blank r ((good-exactly r).0 h.0) h.1,
 )

@@ -2,24 +2,20 @@
 -- worked temperatures; what send makes of a command's fields, by the tests of the code.
 use mathlib.Core.Path.{◌≡◌, refl, sym, ap, ◌∙◌}
 use mathlib.Core.Logic.{◌≢◌}
-use mathlib.Core.Bool.{Bool, true, false, ◌&&◌, false≢true, and-eq-true_iff}
+use mathlib.Core.Bool.{true, false, ◌&&◌, and-eq-true_iff}
 use Prim.Native.Nat.{ℕ, suc, ◌+◌, ◌*◌, ◌<◌, ◌^◌}
 use native.Mathlib.Omega.{arith}
 use lib.Dec.{leb}
 use lib.IntN.{ℤ, pos, negsuc, neg_ℤ}
 use lib.Signed.{mag}
 use borrow.Author.Tests.{le-leb, lt-leb, leb-true, leb-false}
+use Rattle.std.specs.Prelude.{Result, Ok, Err}
 use Rattle.refusal.specs.declared.Refusal.{Refusal}
 use Rattle.refusal.specs.declared.Refusal.TheVariants.{BatchNumberZero, TemperatureOutOfRange}
-use Rattle.refusal.specs.declared.Verdict.{Verdict}
-use Rattle.refusal.specs.declared.Verdict.TheVariants.{Passed, Refused as Bad}
-use Rattle.refusal.specs.Number.{verdict_number}
+use Rattle.refusal.specs.Number.{Verdict, verdict_number}
 use Rattle.batch.specs.declared.BatchRecord.{BatchRecord}
 use Rattle.batch.specs.declared.sending.Fields.{Fields}
-use Rattle.batch.specs.declared.sending.Made.{Made}
-use Rattle.batch.specs.declared.sending.Made.TheVariants.{Temperature, Refused}
 use Rattle.batch.specs.declared.sending.Scale.{Scale}
-use Rattle.batch.specs.declared.sending.Sent.{Sent}
 use Rattle.batch.specs.declared.sending.Scale.TheVariants.{Tenths, Hundredths}
 use Rattle.batch.specs.Good.{in_range, batch_good, temp_good, name_length_good, name_good, widths_good, blank_ends, verdict_of, send_verdict}
 use Rattle.batch.specs.Sending.{in_tenths, tenfold, in_scale, as_hundredths, made, OneRange, Means12, MadeOfTenths, MadeOfHundredths}
@@ -70,41 +66,15 @@ small (negsuc n) e = omega (arith, leb-true n 3999 ((and-eq-true_iff (leb n 3999
 pub tenfold-fits : (x : ℤ) → in_tenths x ≡ true → mag (tenfold x) < 2 ^ 15
 tenfold-fits x e = small (tenfold x) (sym (one-range-tenths x) ∙ e)
 
--- ---- what is made, by the test in the command's unit, and what was tested, by what is made
-abbrev taken_in : Made → Bool
-taken_in (Temperature t) = true
-taken_in (Refused r) = false
-
-abbrev degrees_in : Made → ℤ
-degrees_in (Temperature t) = t
-degrees_in (Refused r) = pos 0
-
-abbrev refusal_in : Made → Refusal
-refusal_in (Temperature t) = TemperatureOutOfRange
-refusal_in (Refused r) = r
-
-module _ (s : Scale) (x : ℤ) where
-  pub made-refused : in_scale s x ≡ false → made s x ≡ Refused TemperatureOutOfRange
-  unfolding made
-  made-refused e = rw e
-
-  pub made-taken : in_scale s x ≡ true → made s x ≡ Temperature (as_hundredths s x)
-  unfolding made
-  made-taken e = rw e
-
-  pub told-refused : (r : Refusal) → made s x ≡ Refused r → (in_scale s x ≡ false) × (TemperatureOutOfRange ≡ r)
-  told-refused r e =
-      by-test (in_scale s x)
-      (λ t. absurd (false≢true (sym (ap taken_in (sym (made-taken t) ∙ e)))))
-      (λ f. (f, ap refusal_in (sym (made-refused f) ∙ e)))
-
-  pub told-taken : (t : ℤ) → made s x ≡ Temperature t → as_hundredths s x ≡ t
-  told-taken t e =
-      by-test (in_scale s x)
-      (λ y. ap degrees_in (sym (made-taken y) ∙ e))
-      (λ f. absurd (false≢true (ap taken_in (sym (made-refused f) ∙ e))))
-
 -- ---- what send makes
+verdict_in : Result ℤ Refusal → Verdict
+verdict_in (Ok t) = Ok tt
+verdict_in (Err r) = Err r
+
+degrees_or : ℤ → Result ℤ Refusal → ℤ
+degrees_or other (Ok t) = t
+degrees_or other (Err r) = other
+
 module _ (s : Scale) (f : Fields) where
   abbrev x : BatchRecord
   x = record_from s f
@@ -113,35 +83,37 @@ module _ (s : Scale) (f : Fields) where
   unfolding sent_from
   by-verdict e = ap (sent_as x) e
 
-  pub sent-verdict : (sent_from s f).verdict ≡ send_verdict x
-  unfolding sent_from
-  sent-verdict = refl
-
-  pub sent-record : send_verdict x ≡ Passed → (sent_from s f).«record» ≡ x
-  sent-record e = ap (λ (r : Sent). r.«record») (by-verdict e)
-
-  zero-is-11 : f.batch.0 ≡ 0 → send_verdict x ≡ Bad BatchNumberZero
+  zero-is-11 : f.batch.0 ≡ 0 → send_verdict x ≡ Err BatchNumberZero
   zero-is-11 e = sent-bad x BatchNumberZero (verdict-batch x (batch-zero x e))
 
-  pub sent-zero : f.batch.0 ≡ 0 → sent_from s f ≡ sent_as x (Bad BatchNumberZero)
-  sent-zero e = by-verdict (zero-is-11 e)
-
   -- 12, and nothing else, where the number is there and the temperature is not in its range
-  far-is-12 : (f.batch.0 ≡ 0 → ⊥) → in_scale s f.temperature ≡ false → send_verdict x ≡ Bad TemperatureOutOfRange
+  far-is-12 : (f.batch.0 ≡ 0 → ⊥) → in_scale s f.temperature ≡ false → send_verdict x ≡ Err TemperatureOutOfRange
   far-is-12 numbered far =
       sent-bad x TemperatureOutOfRange
       (verdict-temp x (batch-not-zero x numbered) (temp-tested x ∙ sym (one-range s f.temperature) ∙ far))
 
-  pub sent-far :
-      (r : Refusal) → (f.batch.0 ≡ 0 → ⊥) → made s f.temperature ≡ Refused r → sent_from s f ≡ sent_as x (Bad r)
-  sent-far r numbered e =
-      let out = told-refused s f.temperature r e in
-      by-verdict (far-is-12 numbered out.0) ∙ ap (λ y. sent_as x (Bad y)) out.1
+  pub sent-zero : f.batch.0 ≡ 0 → Err BatchNumberZero ≡ sent_from s f
+  sent-zero e = sym (by-verdict (zero-is-11 e))
 
-  pub sent-made :
-      (t : ℤ) → made s f.temperature ≡ Temperature t → sent_from s f ≡ sent_as (record_with f t) (send_verdict (record_with f t))
-  sent-made t e =
-      by-verdict refl ∙ ap (λ y. sent_as (record_with f y) (send_verdict (record_with f y))) (told-taken s f.temperature t e)
+  -- a temperature that is out of the range of its unit is refused with 12
+  pub sent-far : {r : Refusal} → (f.batch.0 ≡ 0 → ⊥) → made s f.temperature ≡ Err r → Err r ≡ sent_from s f
+  unfolding made verdict_in
+  sent-far {r} numbered e =
+      by-test (in_scale s f.temperature)
+      (λ t. let both : Ok (as_hundredths s f.temperature) ≡ Err r = rw t at e in cc)
+      (λ far.
+      let is : Err TemperatureOutOfRange ≡ Err r = rw far at e in
+      sym (by-verdict (far-is-12 numbered far) ∙ ap (λ (y : Result ℤ Refusal). sent_as x (verdict_in y)) is))
+
+  pub sent-made : {t : ℤ} {v : Verdict} → made s f.temperature ≡ Ok t → send_verdict (record_with f t) ≡ v
+      → sent_as (record_with f t) v ≡ sent_from s f
+  unfolding made degrees_or
+  sent-made {t} {v} e w =
+      by-test (in_scale s f.temperature)
+      (λ y.
+      let is : as_hundredths s f.temperature ≡ t = ap (degrees_or t) (rw y at e) in
+      ap (sent_as (record_with f t)) (sym w) ∙ ap (λ z. sent_as (record_with f z) (send_verdict (record_with f z))) (sym is) ∙ sym (by-verdict refl))
+      (λ far. let both : Err TemperatureOutOfRange ≡ Ok t = rw far at e in cc)
 
 -- ---- the meaning of 12
 -- a record that has a number and a temperature in range is not refused with 12

@@ -1,7 +1,6 @@
 -- The record that stands where there is none: every field is zero.
-use Rattle.std.specs.Prelude.{◌≡◌, pos, replicate}
+use Rattle.std.specs.Prelude.{◌≡◌, pos, replicate, Err}
 use Rattle.refusal.specs.declared.Refusal.TheVariants.{BatchNumberZero}
-use Rattle.refusal.specs.declared.Verdict.TheVariants.{Refused}
 use Rattle.batch.specs.Good.{name_limit, verdict_of}
 use Rattle.batch.specs.declared.BatchRecord.{BatchRecord}
 
@@ -17,4 +16,4 @@ no_record =
 
 -- it is refused, for its batch number
 abbrev pub NoRecordRefused : Type 0
-NoRecordRefused = verdict_of no_record ≡ Refused BatchNumberZero
+NoRecordRefused = verdict_of no_record ≡ Err BatchNumberZero

@@ -1,11 +1,9 @@
 -- What makes a batch record good, clause by clause as document 01 has it, the first refusal that applies to a record, and what send asks
 -- of one besides (document 02).
-use Rattle.std.specs.Prelude.{◌≡◌, ◌↔◌, Bool, true, false, not, ◌&&◌, ◌||◌, List, [], ◌∷◌, ℕ, ◌^◌, ◌-◌, eqb, leb, ltb, ℤ, pos, neg_ℤ, length, get_or, take, drop}
+use Rattle.std.specs.Prelude.{◌≡◌, ◌↔◌, Bool, true, false, not, ◌&&◌, ◌||◌, List, [], ◌∷◌, ℕ, ◌^◌, ◌-◌, eqb, leb, ltb, ℤ, pos, neg_ℤ, length, get_or, take, drop, Ok, Err}
 use Rattle.std.specs.Int.Signed.{le_z}
 use Rattle.refusal.specs.declared.Refusal.TheVariants.{BatchNumberZero, TemperatureOutOfRange, NameTooLong, BadName, BlankEnd}
-use Rattle.refusal.specs.declared.Verdict.{Verdict}
-use Rattle.refusal.specs.declared.Verdict.TheVariants.{Passed, Refused}
-use Rattle.refusal.specs.Number.{verdict_number}
+use Rattle.refusal.specs.Number.{Verdict, verdict_number}
 use Rattle.batch.specs.declared.BatchRecord.{BatchRecord}
 
 -- the limits: temperatures in hundredths of a degree Celsius, a name's length, and the bytes that a name is made of
@@ -97,11 +95,11 @@ unless false refusal later = refusal
 -- the first refusal that applies: 11, 12, 13, 14. The widths are judged with the last
 unfoldable pub verdict_of : BatchRecord → Verdict
 verdict_of r =
-    unless (batch_good r) (Refused BatchNumberZero)
-    (unless (temp_good r) (Refused TemperatureOutOfRange)
-    (unless (name_length_good r) (Refused NameTooLong)
-    (unless (name_good r && widths_good r) (Refused BadName)
-    Passed)))
+    unless (batch_good r) (Err BatchNumberZero)
+    (unless (temp_good r) (Err TemperatureOutOfRange)
+    (unless (name_length_good r) (Err NameTooLong)
+    (unless (name_good r && widths_good r) (Err BadName)
+    (Ok tt))))
 
 -- A name of n bytes begins or ends with a blank: its first byte is one, or its last, the one at n - 1. An empty name has neither.
 unfoldable pub blank_at_end : ℕ → List ℕ → Bool
@@ -112,17 +110,17 @@ blank_ends r = blank_at_end r.name_length r.name
 
 -- one verdict, then another: the first refusal of the two
 abbrev pub and_then : Verdict → Verdict → Verdict
-and_then Passed later = later
-and_then (Refused r) later = Refused r
+and_then (Ok u) later = later
+and_then (Err r) later = Err r
 
 -- What send asks of a record: that it is good, and then that its name has no blank at an end: 11, 12, 13, 14, 30. A good record with a
 -- blank there stays good where it is offered or carried, so in a sound ring, and in the history.
 unfoldable pub send_verdict : BatchRecord → Verdict
-send_verdict r = and_then (verdict_of r) (unless (not (blank_ends r)) (Refused BlankEnd) Passed)
+send_verdict r = and_then (verdict_of r) (unless (not (blank_ends r)) (Err BlankEnd) (Ok tt))
 
 -- a record is good exactly when no refusal applies
 abbrev pub GoodExactly : Type 0
-GoodExactly = (r : BatchRecord) → (good_record r ≡ true) ↔ (verdict_of r ≡ Passed)
+GoodExactly = (r : BatchRecord) → (good_record r ≡ true) ↔ (verdict_of r ≡ Ok tt)
 
 -- and exactly when its number is 0
 abbrev pub GoodIsZero : Type 0
@@ -130,10 +128,10 @@ GoodIsZero = (r : BatchRecord) → (good_record r ≡ true) ↔ (verdict_number 
 
 -- send takes exactly the good records without a blank at an end of their name, and refuses exactly the other good ones with 30
 abbrev pub SentExactly : Type 0
-SentExactly = (r : BatchRecord) → (send_verdict r ≡ Passed) ↔ ((good_record r ≡ true) × (blank_ends r ≡ false))
+SentExactly = (r : BatchRecord) → (send_verdict r ≡ Ok tt) ↔ ((good_record r ≡ true) × (blank_ends r ≡ false))
 
 abbrev pub Means30 : Type 0
-Means30 = (r : BatchRecord) → (send_verdict r ≡ Refused BlankEnd) ↔ ((good_record r ≡ true) × (blank_ends r ≡ true))
+Means30 = (r : BatchRecord) → (send_verdict r ≡ Err BlankEnd) ↔ ((good_record r ≡ true) × (blank_ends r ≡ true))
 
 -- a good record has a batch number
 abbrev pub GoodNumber : Type 0

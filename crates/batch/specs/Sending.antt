@@ -1,16 +1,13 @@
 -- From a command's fields to a record (document 02): a command gives its temperature in tenths or in hundredths of a degree, a record has
 -- hundredths.
-use Rattle.std.specs.Prelude.{◌≡◌, Bool, false, ◌↔◌, ◌≢◌, [], ◌∷◌, map, ℤ, pos, neg_ℤ, ◌*ℤ◌}
+use Rattle.std.specs.Prelude.{◌≡◌, Bool, false, ◌↔◌, ◌≢◌, [], ◌∷◌, map, ℤ, pos, neg_ℤ, ◌*ℤ◌, Result, Ok, Err}
 use Rattle.refusal.specs.declared.Refusal.TheVariants.{TemperatureOutOfRange}
-use Rattle.refusal.specs.declared.Verdict.{Verdict}
-use Rattle.refusal.specs.declared.Verdict.TheVariants.{Passed, Refused as Bad}
+use Rattle.refusal.specs.declared.Refusal.{Refusal}
+use Rattle.refusal.specs.Number.{Verdict}
 use Rattle.batch.specs.declared.BatchRecord.{BatchRecord}
 use Rattle.batch.specs.declared.sending.Fields.{Fields}
-use Rattle.batch.specs.declared.sending.Made.{Made}
-use Rattle.batch.specs.declared.sending.Made.TheVariants.{Temperature, Refused}
 use Rattle.batch.specs.declared.sending.Scale.{Scale}
 use Rattle.batch.specs.declared.sending.Scale.TheVariants.{Tenths, Hundredths}
-use Rattle.batch.specs.declared.sending.Sent.{Sent}
 use Rattle.batch.specs.Good.{between, in_range, unless, send_verdict}
 use Rattle.batch.specs.Blank.{no_record}
 
@@ -39,8 +36,8 @@ as_hundredths Tenths x = tenfold x
 as_hundredths Hundredths x = x
 
 -- A record's temperature from a command's: tested in the command's own unit, and only then in hundredths; or 12.
-unfoldable pub made : Scale → ℤ → Made
-made s x = unless (in_scale s x) (Refused TemperatureOutOfRange) (Temperature (as_hundredths s x))
+unfoldable pub made : Scale → ℤ → Result ℤ Refusal
+made s x = unless (in_scale s x) (Err TemperatureOutOfRange) (Ok (as_hundredths s x))
 
 -- the two ranges are one: a command's temperature is taken exactly where a record may have it
 abbrev pub OneRange : Type 0
@@ -77,37 +74,34 @@ fields_of x = record {
 unfoldable pub no_fields : Fields
 no_fields = fields_of no_record
 
--- what send makes of a record, and of a command's fields: its verdict, and the record, blank where it is refused
-abbrev pub only_good : Verdict → BatchRecord → BatchRecord
-only_good Passed x = x
-only_good (Bad r) x = no_record
+-- what send makes of a record with this verdict, and of a command's fields: the record, or the refusal
+abbrev pub sent_as : BatchRecord → Verdict → Result BatchRecord Refusal
+sent_as x (Ok u) = Ok x
+sent_as x (Err r) = Err r
 
-abbrev pub sent_as : BatchRecord → Verdict → Sent
-sent_as x v = record { verdict = v; «record» = only_good v x }
-
-unfoldable pub sent_from : Scale → Fields → Sent
+unfoldable pub sent_from : Scale → Fields → Result BatchRecord Refusal
 sent_from s f = sent_as (record_from s f) (send_verdict (record_from s f))
 
 -- send says 12 of exactly the fields with a batch number whose temperature is out of its own unit's range
 abbrev pub Means12 : Type 0
 Means12 =
     (s : Scale) (f : Fields) →
-    (send_verdict (record_from s f) ≡ Bad TemperatureOutOfRange) ↔ ((f.batch.0 ≢ 0) × (in_scale s f.temperature ≡ false))
+    (send_verdict (record_from s f) ≡ Err TemperatureOutOfRange) ↔ ((f.batch.0 ≢ 0) × (in_scale s f.temperature ≡ false))
 
 -- ---- worked: what is made of a temperature in tenths, and of one in hundredths
-abbrev pub too_far : Made
-too_far = Refused TemperatureOutOfRange
+abbrev pub too_far : Result ℤ Refusal
+too_far = Err TemperatureOutOfRange
 
 abbrev pub MadeOfTenths : Type 0
 MadeOfTenths =
     map (made Tenths)
     (pos 1200 ∷ neg_ℤ (pos 400) ∷ pos 0 ∷ pos 612 ∷ pos 1201 ∷ neg_ℤ (pos 401) ∷ pos 3277 ∷ pos 6554 ∷ pos 32767 ∷ neg_ℤ (pos 32768) ∷ [])
-    ≡ Temperature (pos 12000) ∷ Temperature (neg_ℤ (pos 4000)) ∷ Temperature (pos 0) ∷ Temperature (pos 6120)
+    ≡ Ok (pos 12000) ∷ Ok (neg_ℤ (pos 4000)) ∷ Ok (pos 0) ∷ Ok (pos 6120)
     ∷ too_far ∷ too_far ∷ too_far ∷ too_far ∷ too_far ∷ too_far ∷ []
 
 abbrev pub MadeOfHundredths : Type 0
 MadeOfHundredths =
     map (made Hundredths)
     (pos 12000 ∷ neg_ℤ (pos 4000) ∷ pos 612 ∷ pos 1201 ∷ neg_ℤ (pos 401) ∷ pos 12001 ∷ neg_ℤ (pos 4001) ∷ pos 32767 ∷ neg_ℤ (pos 32768) ∷ [])
-    ≡ Temperature (pos 12000) ∷ Temperature (neg_ℤ (pos 4000)) ∷ Temperature (pos 612) ∷ Temperature (pos 1201) ∷ Temperature (neg_ℤ (pos 401))
+    ≡ Ok (pos 12000) ∷ Ok (neg_ℤ (pos 4000)) ∷ Ok (pos 612) ∷ Ok (pos 1201) ∷ Ok (neg_ℤ (pos 401))
     ∷ too_far ∷ too_far ∷ too_far ∷ too_far ∷ []

@@ -1,6 +1,6 @@
 -- What C may rely on when it reads and writes commands: the command that was read, written at its place, leaves the bytes as they were; and
 -- what was written reads back as the same command. Both follow from the round trips of the tape (tape/specs/RoundTrip).
-use Rattle.std.specs.Prelude.{ℕ, ◌<◌, ◌≡◌, List}
+use Rattle.std.specs.Prelude.{ℕ, ◌<◌, ◌≡◌, List, Option, Some, None}
 use Rattle.wire.specs.Bytes.{Bytes}
 use Rattle.wire.specs.Record.{FieldsFit}
 use Rattle.tape.specs.Shape.{fields_with}
@@ -9,14 +9,13 @@ use Rattle.tape.specs.Tape.{read_at}
 use Rattle.c_structs.specs.declared.Command.{Command}
 use Rattle.c_structs.specs.declared.Reading.{Reading}
 use Rattle.c_structs.specs.declared.Writing.{Writing}
-use Rattle.c_structs.specs.declared.commands.Wanted.{Wanted}
-use Rattle.c_structs.specs.declared.commands.Wanted.TheVariants.{Known, Unknown}
+use Rattle.command.specs.declared.Action.{Action}
 use Rattle.c_structs.specs.Commands.{command_of, reading_in, wanted_by, writing_to, after_writing}
 
 -- the command with zeros where it has no operand and no fields: what it says there is not written
-abbrev pub plain_by : Wanted → Command → Command
-plain_by (Known a) c = command_of a (fields_with (shape_of a) c.fields)
-plain_by Unknown c = c
+abbrev pub plain_by : Option Action → Command → Command
+plain_by (Some a) c = command_of a (fields_with (shape_of a) c.fields)
+plain_by None c = c
 
 abbrev pub plain_command : Command → Command
 plain_command c = plain_by (wanted_by c) c

@@ -1,11 +1,9 @@
 -- What the calls on a history table take and answer, in plain numbers.
-use Rattle.std.specs.Prelude.{ℕ, List, pos}
+use Rattle.std.specs.Prelude.{ℕ, List, pos, Some, None, Ok, Err}
 use Rattle.refusal.specs.Number.{number_of}
 use Rattle.batch.specs.declared.BatchNo.{BatchNo}
-use Rattle.history.specs.declared.Figures.{Figures}
-use Rattle.history.specs.declared.Figures.TheVariants.{None, Of, Refused as NotAnswered}
-use Rattle.history.specs.declared.InRow.{InRow}
 use Rattle.history.specs.declared.Row.{Row}
+use Rattle.history.specs.History.{Figures, InRow}
 use Rattle.history.specs.Said.{FiguresTold, figures_said, BatchTold, batch_told_in, batch_said}
 use Rattle.network.specs.Counting.{one}
 use Rattle.c_structs.specs.declared.BatchFigures.{BatchFigures}
@@ -19,9 +17,9 @@ abbrev pub no_figures : ℕ → BatchFigures
 no_figures n = record { sum = pos 0; lowest = pos 0; highest = pos 0; refusal = n; held = 0 }
 
 abbrev pub figures_in : Figures → BatchFigures
-figures_in None = no_figures 0
-figures_in (Of s) = record { sum = s.sum; lowest = s.lowest; highest = s.highest; refusal = 0; held = 1 }
-figures_in (NotAnswered r) = no_figures (number_of r)
+figures_in (Ok None) = no_figures 0
+figures_in (Ok (Some s)) = record { sum = s.sum; lowest = s.lowest; highest = s.highest; refusal = 0; held = 1 }
+figures_in (Err r) = no_figures (number_of r)
 
 -- the same from what the history's own definitions have the figures say
 abbrev pub figures_struct : FiguresTold → BatchFigures

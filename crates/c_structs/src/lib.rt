@@ -1,6 +1,9 @@
 // The structs that C sees, and what stands between them and the ring: commands and questions made of plain numbers, and replies and answers
 // told in plain numbers. `commands` has the tape's commands, `tables` what the history says. A batch record, and the fields of a send, go to
 // C and come from it as they are. `vessel_ring` exports all this.
+//
+// The C interface (include/vessel_ring.h) needs the form of these structs: a refusal's number, 0 where there is none, and a flag beside the
+// values, where the crates below have Result and Option; two arrays and a count for the deliveries; a command byte for an action.
 #![tactic(auto)]
 
 pub mod commands;
@@ -13,13 +16,15 @@ ghost use Rattle.command.specs.declared.Question.TheVariants as question;
 ghost use Rattle.command.specs.Bare.{bare_of};
 ghost use Rattle.network.specs.Counting.{one};
 ghost use Rattle.network.specs.Network.{node_no, channel_no};
-ghost use Rattle.c_structs.specs.Answers.{numbers_in, numbers, delivery_in, rounds_in, hops_left_in, waiting_in};
+ghost use Rattle.network.specs.Answers.{number_in};
+ghost use Rattle.c_structs.specs.Answers.{no_delivery, delivery_in, rounds_in, hops_left_in, set_in, waiting_in};
 
 use batch::BatchRecord;
 use batch::sending::{Fields, Scale};
 use command;
 use network::{Answer, Dispatched, Reply};
 use numbers::{ChannelNo, NodeNo};
+use refusal::Refusal;
 
 // What a move answers. `delivered` is 1 where it delivered; elsewhere the channel and the record are zero.
 #[repr(C)]
@@ -106,98 +111,98 @@ pub struct Writing {
     pub refusal: u8,
 }
 
-// All that an answer can say, in numbers; what it does not say is 0.
-#[derive(Clone, Copy)]
-struct AnswerNumbers {
-    refusal: u8,
-    delivered: u8,
-    channel: u8,
-    hops: u8,
-    set: u64,
-}
-
-fn numbers(refusal: u8, delivered: u8, channel: u8, hops: u8, set: u64) -> AnswerNumbers
-    ensures { result ≡ numbers refusal delivered channel hops set }
-{
-    AnswerNumbers {
-        refusal,
-        delivered,
-        channel,
-        hops,
-        set,
-    }
-}
-
-fn numbers_in(answer: Answer) -> AnswerNumbers
-    ensures { result ≡ numbers_in answer }
-{
-    match answer {
-        Answer::Done => numbers(0, 0, 0, 0, 0),
-        Answer::Delivered(channel) => numbers(0, 1, channel.0, 0, 0),
-        Answer::Hops(hops) => numbers(0, 0, 0, hops, 0),
-        Answer::Waiting(set) => numbers(0, 0, 0, 0, set),
-        Answer::Refused(refusal) => numbers(refusal.number(), 0, 0, 0, 0),
-    }
-}
-
 // The refusal's number in a reply, or 0.
 pub fn refusal_in(reply: Reply) -> u8
-    ensures { result ≡ (numbers_in reply.answer).refusal }
+    ensures { result ≡ number_in reply }
 {
-    let answer = reply.answer;
-    let said = numbers_in(answer);
-    said.refusal
+    refusal::number_in(&reply)
+}
+
+fn no_delivery(refusal: u8) -> Delivery
+    ensures { result ≡ no_delivery refusal }
+{
+    Delivery {
+        refusal,
+        delivered: 0,
+        channel: 0,
+        record: BatchRecord::none(),
+    }
 }
 
 pub fn delivery_in(reply: Reply) -> Delivery
     ensures { result ≡ delivery_in reply }
 {
-    let answer = reply.answer;
-    let said = numbers_in(answer);
-    let record = reply.delivered;
-    Delivery {
-        refusal: said.refusal,
-        delivered: said.delivered,
-        channel: said.channel,
-        record,
+    match reply {
+        Ok(Answer::Delivered(channel, record)) => Delivery {
+            refusal: 0,
+            delivered: 1,
+            channel: channel.0,
+            record,
+        },
+        Ok(_) => no_delivery(0),
+        Err(refusal) => no_delivery(refusal.number()),
     }
 }
 
-pub fn rounds_in(dispatched: Dispatched) -> Rounds
+pub fn rounds_in(dispatched: Result<Dispatched, Refusal>) -> Rounds
     ensures { result ≡ rounds_in dispatched }
 {
-    let answer = dispatched.answer;
-    let said = numbers_in(answer);
-    let channels = dispatched.channels;
-    let records = dispatched.records;
-    Rounds {
-        rounds: dispatched.rounds,
-        refusal: said.refusal,
-        count: dispatched.count,
-        channels,
-        records,
+    match dispatched {
+        Ok(made) => {
+            let channels = made.channels;
+            let records = made.records;
+            Rounds {
+                rounds: made.rounds,
+                refusal: 0,
+                count: made.count,
+                channels,
+                records,
+            }
+        }
+        Err(refusal) => Rounds {
+            rounds: 0,
+            refusal: refusal.number(),
+            count: 0,
+            channels: [0; 64],
+            records: [BatchRecord::none(); 64],
+        },
     }
 }
 
-pub fn hops_in(answer: Answer) -> HopsLeft
-    ensures { result ≡ hops_left_in answer }
+pub fn hops_in(reply: Reply) -> HopsLeft
+    ensures { result ≡ hops_left_in reply }
 {
-    let said = numbers_in(answer);
-    HopsLeft {
-        refusal: said.refusal,
-        hops: said.hops,
+    match reply {
+        Ok(Answer::Hops(hops)) => HopsLeft { refusal: 0, hops },
+        Ok(_) => HopsLeft {
+            refusal: 0,
+            hops: 0,
+        },
+        Err(refusal) => HopsLeft {
+            refusal: refusal.number(),
+            hops: 0,
+        },
     }
 }
 
-pub fn waiting_in(answer: Answer) -> Waiting
-    ensures { result ≡ waiting_in answer }
+// The set in a reply with a waiting set, or the empty one.
+fn set_in(reply: Reply) -> u64
+    ensures { result ≡ set_in reply }
 {
-    let said = numbers_in(answer);
-    let tasks = questions::waiting_tasks(said.set);
+    match reply {
+        Ok(Answer::Waiting(set)) => set,
+        _ => 0,
+    }
+}
+
+pub fn waiting_in(reply: Reply) -> Waiting
+    ensures { result ≡ waiting_in reply }
+{
+    let set = set_in(reply);
     Waiting {
-        set: said.set,
-        tasks,
-        refusal: said.refusal,
+        set,
+        tasks: questions::waiting_tasks(set),
+        refusal: refusal_in(reply),
     }
 }
 
@@ -205,10 +210,10 @@ pub fn waiting_in(answer: Answer) -> Waiting
 pub fn flag(b: bool) -> u8
     ensures { result ≡ one b }
 {
-    if b { 1 } else { 0 }
+    u8::from(b)
 }
 
-// The commands and the questions by their numbers.
+// The commands and the questions by their numbers, one for each exported call: the C interface gives bare numbers.
 
 pub fn add_channel(sender: u8, receiver: u8) -> command::Command
     ensures { result ≡ bare_of (AddChannel (node_no sender) (node_no receiver)) }

@@ -5,7 +5,8 @@ ghost use Rattle.c_structs.specs.Tables.{batch_no, no_figures, figures_in, figur
 
 use crate::{BatchFigures, RowBatch};
 use batch::BatchNo;
-use history::{Figures, InRow};
+use history::Summary;
+use refusal::Refusal;
 
 pub fn batch_no(number: u32) -> BatchNo
     ensures { result ≡ batch_no number }
@@ -25,36 +26,36 @@ fn no_figures(refusal: u8) -> BatchFigures
     }
 }
 
-pub fn figures_in(figures: Figures) -> BatchFigures
+pub fn figures_in(figures: Result<Option<Summary>, Refusal>) -> BatchFigures
     ensures value { result ≡ figures_in figures }
     ensures said { result ≡ figures_struct (told_in figures) }
 {
     match figures {
-        Figures::None => no_figures(0),
-        Figures::Of(summary) => BatchFigures {
+        Ok(Some(summary)) => BatchFigures {
             sum: summary.sum,
             lowest: summary.lowest,
             highest: summary.highest,
             refusal: 0,
             held: 1,
         },
-        Figures::Refused(refusal) => no_figures(refusal.number()),
+        Ok(None) => no_figures(0),
+        Err(refusal) => no_figures(refusal.number()),
     }
 }
 
-pub fn batch_in(row: InRow) -> RowBatch
+pub fn batch_in(row: Result<Option<BatchNo>, Refusal>) -> RowBatch
     ensures { result ≡ batch_in row }
 {
     match row {
-        InRow::None => RowBatch {
-            batch: 0,
-            refusal: 0,
-        },
-        InRow::Batch(batch) => RowBatch {
+        Ok(Some(batch)) => RowBatch {
             batch: batch.0,
             refusal: 0,
         },
-        InRow::Refused(refusal) => RowBatch {
+        Ok(None) => RowBatch {
+            batch: 0,
+            refusal: 0,
+        },
+        Err(refusal) => RowBatch {
             batch: 0,
             refusal: refusal.number(),
         },

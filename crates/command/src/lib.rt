@@ -26,8 +26,8 @@ pub enum Action {
     Withdraw(ChannelNo),
 }
 
-// A command. Only a send has fields, as it gives them; those beside any other action say nothing. (They have a name of 32 bytes, which no
-// enum can hold, so they stand beside the action.)
+// A command. Only a send has fields, as it gives them; those beside any other action say nothing. They stand beside the action and not in
+// it, since the tape's theorem WrittenReadsBack, with SameCommand, speaks of commands with needless fields.
 #[derive(Clone, Copy)]
 pub struct Command {
     pub action: Action,
@@ -44,8 +44,10 @@ pub enum Question {
 pub fn bare(action: Action) -> Command
     ensures { result ≡ bare_of action }
 {
-    let fields = Fields::none();
-    Command { action, fields }
+    Command {
+        action,
+        fields: Fields::none(),
+    }
 }
 
 // The commands and the questions by name.
@@ -78,8 +80,10 @@ pub fn receive(channel: ChannelNo) -> Command
 pub fn send(channel: ChannelNo, scale: Scale, fields: Fields) -> Command
     ensures { result ≡ record { action = Send channel scale; fields = fields } }
 {
-    let action = Action::Send(channel, scale);
-    Command { action, fields }
+    Command {
+        action: Action::Send(channel, scale),
+        fields,
+    }
 }
 
 pub fn enter(node: NodeNo) -> Command

@@ -9,15 +9,14 @@ use lib.IntN.{ℤ, pos, negsuc, sub_ℕ, ◌+ℤ◌}
 use lib.Signed.{lt_z}
 use lib.ListN.{get_or, take, length-map, get_or-map}
 use borrow.Author.Tests.{lt-ltb, le-ltb, ltb-true, ltb-false}
-use Rattle.refusal.specs.declared.Verdict.TheVariants.{Passed}
-use Rattle.refusal.proofs.Verdicts.{has_passed}
+use Rattle.std.specs.Prelude.{Ok, is_ok}
 use Rattle.batch.specs.Good.{every}
 use Rattle.batch.specs.Sending.{tenfold}
 use Rattle.numbers.proofs.Splits.{by-test}
 use Rattle.batch.proofs.Temperatures.{below-zero}
 use Rattle.history.specs.declared.Row.{Row}
 use Rattle.history.specs.Table.{empty_row, sound_table, batches_in, place_of, has_row, readings_in}
-use Rattle.history.specs.History.{lowest, highest, sum, figures_of, figures}
+use Rattle.history.specs.History.{lowest, highest, sum, Figures, figures_of, figures}
 use Rattle.convert.specs.TurnedTable.{tenfold_row, tenfold_table, row_in_tenths, sound_in_tenths, turn_table, TurnedSound, tenfold_figures, FiguresTenfold, AllElseSame}
 
 -- ---- numbers: ten times as many keep their order, and their sum is ten times as many
@@ -86,7 +85,10 @@ sum-tenfold : (ys : List ℤ) (x : ℤ) → sum (tenfold x) (map tenfold ys) ≡
 sum-tenfold [] x = refl
 sum-tenfold (y ∷ ys) x = ap (λ z. sum z (map tenfold ys)) (sym (tenfold-sum x y)) ∙ sum-tenfold ys (x +ℤ y)
 
-figures-tenfold : (xs : List ℤ) → figures_of (map tenfold xs) ≡ tenfold_figures (figures_of xs)
+abbrev tell : List ℤ → Figures
+tell xs = Ok (figures_of xs)
+
+figures-tenfold : (xs : List ℤ) → tell (map tenfold xs) ≡ tenfold_figures (tell xs)
 figures-tenfold [] = refl
 figures-tenfold (x ∷ xs) = rw (lowest-tenfold xs x, highest-tenfold xs x, sum-tenfold xs x)
 
@@ -120,9 +122,9 @@ module _ (t : List Row) where
   unfolding turn_table
   stays e = rw e
 
-  done-sound : (turn_table t).verdict ≡ Passed → sound_in_tenths t ≡ true
+  done-sound : (turn_table t).verdict ≡ Ok tt → sound_in_tenths t ≡ true
   unfolding turn_table
-  done-sound d = by-test (sound_in_tenths t) (λ e. e) (λ e. absurd (false≢true (rw e at (ap has_passed d))))
+  done-sound d = by-test (sound_in_tenths t) (λ e. e) (λ e. absurd (false≢true (rw e at (ap is_ok d))))
 
 pub turned-sound : TurnedSound
 unfolding sound_in_tenths
@@ -134,7 +136,7 @@ pub figures-turned : FiguresTenfold
 unfolding figures
 figures-turned t b d =
     rw (turned-sound t d)
-    (ap (λ u. figures_of (readings_in b u)) (done-turned t (done-sound t d)) ∙ ap figures_of (readings-tenfold b t) ∙ figures-tenfold (readings_in b t))
+    (ap (λ u. tell (readings_in b u)) (done-turned t (done-sound t d)) ∙ ap tell (readings-tenfold b t) ∙ figures-tenfold (readings_in b t))
 
 pub all-else-same : AllElseSame
 all-else-same t =

@@ -2,7 +2,6 @@
 // all else the same. 25 where the ring is not sound in tenths, and it is then as it was. A ring is not asked in which unit it is held:
 // one in hundredths that would be sound in tenths is turned as any other.
 ghost use Rattle.std.specs.Prelude.{◌≡◌, length};
-ghost use Rattle.batch.specs.Blank.{no_record};
 ghost use Rattle.network.specs.Answers.{step_of};
 ghost use Rattle.network.specs.Layout.{record_room};
 ghost use Rattle.wire.specs.Bytes.{Bytes};
@@ -18,9 +17,10 @@ use refusal::Refusal;
 fn turned_record(record: BatchRecord) -> BatchRecord
     ensures { result ≡ turned_record «record» }
 {
-    let temperature = turned_cell(record.temperature);
-    let fields = sending::fields_of(record);
-    sending::record_with(fields, temperature)
+    BatchRecord {
+        temperature: turned_cell(record.temperature),
+        ..record
+    }
 }
 
 // Turns the records of all channels, and answers whether every temperature was one in tenths.
@@ -29,61 +29,46 @@ fn turn_records(records: &mut Records) -> bool
     ensures { (result ≡ records_in_tenths records.old) × (records.new ≡ turned_records records.old) }
 {
     let mut tenths = true;
-    let mut k: usize = 0;
-    while k < network::CHANNELS {
+    for k in 0..network::CHANNELS {
         let record = updates::record_of(records, k);
         if !sending::in_tenths(record.temperature) {
             tenths = false;
         }
         updates::set_record(records, k, turned_record(record));
-        k += 1;
     }
     tenths
-}
-
-fn answered(ring: Ring, answer: Answer) -> Step
-    ensures { result ≡ record { ring = ring; reply = record { answer = answer; delivered = no_record } } }
-{
-    let delivered = BatchRecord::none();
-    let reply = Reply { answer, delivered };
-    Step { ring, reply }
 }
 
 // The ring in hundredths, or the ring as it was and 25.
 pub fn turned(ring: Ring) -> Step
     ensures { result ≡ step_of ring (turn_ring ring) }
 {
-    let head = ring.head;
-    let slots = ring.slots;
-    let lines = ring.lines;
-    let mut offers = ring.offers;
-    let mut carried = ring.carried;
-    let refusal = Answer::Refused(Refusal::UnsoundRing);
-    if !turn_records(&mut offers) {
-        return answered(ring, refusal);
-    }
-    if !turn_records(&mut carried) {
-        return answered(ring, refusal);
-    }
-    if !soundness::is_sound(head, &slots, &lines, &offers, &carried) {
-        return answered(ring, refusal);
-    }
-    let after = Ring {
-        head,
-        slots,
-        lines,
-        offers,
-        carried,
+    let refused = Step {
+        ring,
+        reply: Err(Refusal::UnsoundRing),
     };
-    answered(after, Answer::Done)
+    let mut after = ring;
+    if !turn_records(&mut after.offers) {
+        return refused;
+    }
+    if !turn_records(&mut after.carried) {
+        return refused;
+    }
+    if !soundness::is_sound(&after) {
+        return refused;
+    }
+    Step {
+        ring: after,
+        reply: Ok(Answer::Done),
+    }
 }
 
-// The same on a lent ring.
+// The same on a lent ring. It is judged in hundredths, so a copy of it is turned first.
 pub fn turn_ring(ring: &mut Ring) -> Reply
     ensures { (ring.new ≡ (step_of ring.old (turn_ring ring.old)).ring)
         × (result ≡ (step_of ring.old (turn_ring ring.old)).reply) }
 {
-    let s = turned(*ring);
-    *ring = s.ring;
-    s.reply
+    let step = turned(*ring);
+    *ring = step.ring;
+    step.reply
 }

@@ -11,13 +11,13 @@ use Rattle.refusal.specs.declared.Refusal.{Refusal}
 use Rattle.refusal.specs.declared.Refusal.TheVariants.{UnsoundRing, NotStarted, NoSuchNode, NoFreeSlot}
 use Rattle.numbers.specs.declared.NodeNo.{NodeNo}
 use Rattle.numbers.specs.declared.ChannelNo.{ChannelNo}
+use Rattle.network.specs.declared.Dispatched.{Dispatched}
 use Rattle.network.specs.declared.Ring.{Ring}
-use Rattle.network.specs.declared.Step.{Step}
 use Rattle.network.specs.Counting.{one}
 use Rattle.network.specs.Network.{Network, node_no, node, is_node, with_node}
 use Rattle.network.specs.Calls.{Outcome, refused, accepted, unless, done, has_slot, enter_first}
 use Rattle.network.specs.Calls
-use Rattle.network.specs.Answers.{delivered_in, step_of}
+use Rattle.network.specs.Answers.{Reply, delivered_in}
 use Rattle.network.specs.Runs.{Call, enter, move, after, run}
 use Rattle.network.specs.Layout.{channel_room, view, sound_ring, held_outcome, call_ring}
 use Rattle.network.specs.Dispatch.{round, listed, handed_by, deliveries}
@@ -26,8 +26,8 @@ use Rattle.network.proofs.Promises.Acts.{run-append, deliveries-append}
 use Rattle.network.proofs.Promises.Dispatch.{Going, none-go, go}
 use Rattle.network.proofs.Promises.Tried.{goes, Tried, tried, on-ring-most}
 use Rattle.updates.specs.Known.{AtNode}
-use Rattle.updates.proofs.Openings.{running}
-use Rattle.dispatch.specs.Log.{Log, logged_all}
+use Rattle.updates.proofs.Openings.{Answered, running}
+use Rattle.dispatch.specs.Log.{logged_all}
 use Rattle.dispatch.specs.Rounds.{CanGo, CallsMade}
 use Rattle.dispatch.proofs.Log.{logged-more, logged-count, handed-in}
 
@@ -66,7 +66,7 @@ module _ {ring : Ring} {count : ℕ} (h : CanGo ring count) (a : Call) (g : goes
 
 -- made one after the other
 
-pub went_on : {xs : List Call} {ring : Ring} {l : Log} {next : Ring} {kept : Log} (ys : List Call) {last : Ring} {all : Log} →
+pub went_on : {xs : List Call} {ring : Ring} {l : Dispatched} {next : Ring} {kept : Dispatched} (ys : List Call) {last : Ring} {all : Dispatched} →
     CallsMade xs ring l next kept → CallsMade ys next kept last all → CallsMade (xs ++ ys) ring l last all
 went_on {xs} {ring} {l} {next} {kept} ys a b =
     record {
@@ -89,7 +89,7 @@ gone (go {a} {calls} g rest) {ring} {count} h =
     let all = length-append (handed_by (call_ring a ring)) (deliveries call_ring calls (after ring (call_ring a ring))) in
     (record { ok = later.0.ok; going = later.0.going; room = omega (arith, later.0.room, all) }, later.1 ∙ same_nodes h a g)
 
-module _ {calls : List Call} (g : Going calls) {ring : Ring} {l : Log} {next : Ring} {kept : Log} (h : CanGo ring l.count)
+module _ {calls : List Call} (g : Going calls) {ring : Ring} {l : Dispatched} {next : Ring} {kept : Dispatched} (h : CanGo ring l.count)
     (w : CallsMade calls ring l next kept) where
   pub goes_on : CanGo next kept.count
   goes_on =
@@ -125,55 +125,46 @@ enter-quiet p ring =
     first-quiet (k ∷ ks) σ = quiet (has_slot σ p) NoFreeSlot (accepted done (with_node p ((node σ p).buffer ++ (k ∷ [])) ks false σ)) refl
 
 -- a visit: the entry, and then the move on the ring that it left, as the code answers them
-module _ {ring : Ring} (l : Log) (p : NodeNo) (h : CanGo ring l.count)
-    {entered : Step} (e : entered ≡ step_of ring (call_ring (enter p) ring)) where
-  ring-entered : after ring (call_ring (enter p) ring) ≡ entered.ring
-  ring-entered = sym (ap (λ s. s.ring) e)
-
-  can-move : CanGo entered.ring l.count
+module _ {ring : Ring} (l : Dispatched) (p : NodeNo) (h : CanGo ring l.count)
+    {entered : Ring} (e : entered ≡ after ring (call_ring (enter p) ring)) where
+  can-move : CanGo entered l.count
   can-move =
-      subst (λ r. CanGo r l.count) ring-entered
-      (can-go-on h (enter p) refl (omega (arith, ap length (enter-quiet p ring))))
+      subst (λ r. CanGo r l.count) (sym e) (can-go-on h (enter p) refl (omega (arith, ap length (enter-quiet p ring))))
 
-  pub at-move : p.0 < ring.head.node_count → AtNode entered.ring p.0
+  pub at-move : p.0 < ring.head.node_count → AtNode entered p.0
   at-move there =
       at-node p.0 can-move
-      (subst (λ r. p.0 < r.head.node_count) ring-entered (omega (arith, same_nodes h (enter p) refl, there)))
+      (subst (λ r. p.0 < r.head.node_count) (sym e) (omega (arith, same_nodes h (enter p) refl, there)))
 
-  module _ {moved : Step} (m : moved ≡ step_of entered.ring (call_ring (move p) entered.ring)) where
-    told : listed (delivered_in moved.reply) ≡ handed_by (call_ring (move p) entered.ring)
-    told = ap (λ s. listed (delivered_in s.reply)) m ∙ handed-in (call_ring (move p) entered.ring)
+  module _ {moved : Ring} {reply : Reply} (m : Answered entered (call_ring (move p) entered) moved reply) where
+    told : listed (delivered_in reply) ≡ handed_by (call_ring (move p) entered)
+    told = ap (λ r. listed (delivered_in r)) m.1 ∙ handed-in (call_ring (move p) entered)
 
-    pub place-there : l.count + length (listed (delivered_in moved.reply)) ≤ channel_room
+    pub place-there : l.count + length (listed (delivered_in reply)) ≤ channel_room
     place-there = omega (arith, ap length told, room-there can-move (move p) refl)
 
-    pub visited : {kept : Log} → kept ≡ logged_all (listed (delivered_in moved.reply)) l →
-        CallsMade (enter p ∷ move p ∷ []) ring l moved.ring kept
+    pub visited : {kept : Dispatched} → kept ≡ logged_all (listed (delivered_in reply)) l →
+        CallsMade (enter p ∷ move p ∷ []) ring l moved kept
     visited {kept} is =
-        let next : moved.ring ≡ after entered.ring (call_ring (move p) entered.ring) = ap (λ s. s.ring) m in
         let none : deliveries call_ring (enter p ∷ []) ring ≡ [] = rw (enter-quiet p ring) refl in
-        let first : CallsMade (enter p ∷ []) ring l entered.ring l =
-        record { ring-is = sym ring-entered; log_is = rw none refl } in
-        let second : CallsMade (move p ∷ []) entered.ring l moved.ring kept =
-        record { ring-is = next; log_is = is ∙ ap (λ ds. logged_all ds l) (told ∙ sym (append-nil _)) } in
+        let first : CallsMade (enter p ∷ []) ring l entered l =
+        record { ring-is = e; log_is = rw none refl } in
+        let second : CallsMade (move p ∷ []) entered l moved kept =
+        record { ring-is = m.0; log_is = is ∙ ap (λ ds. logged_all ds l) (told ∙ sym (append-nil _)) } in
         went_on (move p ∷ []) first second
 
 -- a round so far: the first nodes were visited
-pub record InRound (ring : Ring) (l : Log) (nodes node : ℕ) (now : Ring) (kept : Log) : Type 0 where
-  pub within : node ≤ nodes
-  pub nodes-are : nodes ≡ ring.head.node_count
+pub record InRound (ring : Ring) (l : Dispatched) (node : ℕ) (now : Ring) (kept : Dispatched) : Type 0 where
   pub can-go : CanGo now kept.count
   pub went : CallsMade (round node) ring l now kept
-  pub same_nodes : now.head.node_count ≡ nodes
+  pub same_nodes : now.head.node_count ≡ ring.head.node_count
 
-pub round-goes-on : {ring : Ring} {l : Log} {nodes node : ℕ} {now : Ring} {kept : Log} {next : Ring} {more : Log} →
-    InRound ring l nodes node now kept →
-    node < nodes → CallsMade (enter (node_no node) ∷ move (node_no node) ∷ []) now kept next more → InRound ring l nodes (node + 1) next more
-round-goes-on {node = node} r below w =
+pub round-goes-on : {ring : Ring} {l : Dispatched} {node : ℕ} {now : Ring} {kept : Dispatched} {next : Ring} {more : Dispatched} →
+    InRound ring l node now kept → CallsMade (enter (node_no node) ∷ move (node_no node) ∷ []) now kept next more →
+    InRound ring l (node + 1) next more
+round-goes-on {node = node} r w =
     let visit : Going (enter (node_no node) ∷ move (node_no node) ∷ []) = go refl (go refl none-go) in
     record {
-      within = omega arith;
-      nodes-are = r.nodes-are;
       can-go = goes_on visit r.can-go w;
       went = rw (add-one node) (went_on (enter (node_no node) ∷ move (node_no node) ∷ []) r.went w);
       same_nodes = nodes-stay visit r.can-go w ∙ r.same_nodes;

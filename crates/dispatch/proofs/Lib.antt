@@ -3,4 +3,3 @@ pub mod Still
 pub mod Log
 pub mod Going
 pub mod Course
-pub mod Telling

@@ -2,6 +2,7 @@ pub mod BlankEnds
 pub mod Readings
 pub mod Figuring
 pub mod Rewritten
+pub mod Places
 pub mod Passing
 pub mod Said
 pub mod Running

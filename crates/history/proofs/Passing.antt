@@ -1,35 +1,33 @@
 -- What one pass over a table finds: whether it is sound, the row of the batch that is looked for, and the batch numbers. So what a call makes
 -- of the pass is what its definition makes of the table.
-use mathlib.Core.Path.{◌≡◌, refl, sym, ap, ◌∙◌, subst}
+use mathlib.Core.Path.{◌≡◌, refl, sym, ap, ◌∙◌}
 use mathlib.Core.Logic.{◌≢◌}
-use mathlib.Core.Bool.{Bool, true, false, cond, not, ◌&&◌, ◌||◌, true≢false, false≢true, and-eq-true_iff, and_assoc}
+use mathlib.Core.Bool.{Bool, true, false, cond, not, ◌&&◌, ◌||◌, false≢true, and-eq-true_iff, and_assoc}
 use mathlib.Core.List.{List, [], ◌∷◌, ◌++◌, append-nil}
-use Prim.Native.Nat.{ℕ, suc, ◌+◌, ◌^◌, ◌<◌, ◌≤◌}
-use native.Mathlib.Nat.{zero-add, add-zero, add-suc, suc-add}
+use Prim.Native.Nat.{ℕ, suc, ◌+◌, ◌<◌}
+use native.Mathlib.Nat.{zero-add}
 use native.Mathlib.Omega.{arith}
-use lib.Dec.{eqb, leb}
+use lib.Dec.{eqb}
 use lib.IntN.{ℤ}
 use lib.ListN.{length, get_or, take, drop, set, replicate, length-map, length-replicate}
-use lib.Seq.{sets, sets-eq, set_out, drop-length}
-use borrow.Author.Tests.{eq-eqb, ne_eqb, lt-ltb, le-ltb, le-leb, ltb-true, ltb-false, eqb-true, eqb-false}
+use lib.Seq.{sets, sets-eq, drop-length}
+use Rattle.std.specs.Prelude.{min, Option, Some, None, Result, Ok, Err}
+use borrow.Author.Tests.{eq-eqb, ne_eqb, ltb-true, eqb-true, eqb-false}
 use Rattle.refusal.specs.declared.Refusal.{Refusal}
-use Rattle.refusal.specs.declared.Refusal.TheVariants.{UnsoundRing, NoEmptyRow}
-use Rattle.refusal.specs.declared.Verdict.{Verdict}
-use Rattle.refusal.specs.declared.Verdict.TheVariants.{Passed, Refused}
+use Rattle.refusal.specs.declared.Refusal.TheVariants.{NoEmptyRow}
+use Rattle.refusal.specs.Number.{Verdict}
 use Rattle.batch.specs.declared.BatchNo.{BatchNo}
 use Rattle.batch.specs.declared.BatchRecord.{BatchRecord}
 use Rattle.batch.specs.Good.{every, is_zero, unless, verdict_of}
 use Rattle.batch.proofs.Good.{good-exactly, good-number}
 use Rattle.numbers.proofs.Splits.{by-test}
 use Rattle.lent.specs.Slices.{fold_rows}
-use Rattle.history.specs.declared.Decision.{Decision}
-use Rattle.history.specs.declared.Figures.TheVariants.{Refused as NotAnswered}
-use Rattle.history.specs.declared.InRow.TheVariants as row
 use Rattle.history.specs.declared.Row.{Row}
 use Rattle.history.specs.declared.Search.{Search}
-use Rattle.history.specs.Table.{row_limit, empty_row, sound_row, count_good, batches_in, place_of, holds, none_twice, sound_table, has_row, has_empty, readings_of, readings_in}
-use Rattle.history.specs.History.{Result, note, close, figures, refused, done, judged, with_reading, without_row, figures_of, batch_or_none, batch_in}
-use Rattle.history.specs.Search.{begin_at, seen_at, sound_search, no_row, unchanged, decide, row_in, note_good, to_note, to_close, to_tell, to_list}
+use Rattle.history.specs.Table.{row_limit, row_with, empty_row, sound_row, count_good, batches_in, place_of, holds, none_twice, sound_table, has_row, has_empty, readings_of, readings_in}
+use Rattle.history.specs.History.{Outcome, note, close, figures, refused, done, judged, joined, with_reading, figures_of, batch_in}
+use Rattle.history.specs.Search.{begin_at, seen_at, pass, sound_search, home_in, goes_to, to_note, to_close, to_tell, to_list}
+use Rattle.history.proofs.Places.{place-is}
 use Rattle.history.proofs.Rewritten.{holds-cons, absent-first, absent-rest, once-absent, first-once, rest-once}
 
 -- the pass from row i on
@@ -46,15 +44,17 @@ batches-passed (r ∷ t) i s = batches-passed t (suc i) (seen_at s r i)
 
 -- one more than the limit stands for any number over it
 abbrev up_to : ℕ → ℕ
-up_to n = cond (leb n row_limit) n (suc row_limit)
+up_to n = min n (suc row_limit)
 
 rows-passed : (t : List Row) (i : ℕ) (s : Search) → s.rows ≡ up_to i → (passed i s t).rows ≡ up_to (i + length t)
-rows-passed [] i s e = e ∙ ap up_to (sym (add-zero i))
-rows-passed (r ∷ t) i s e = rows-passed t (suc i) (seen_at s r i) refl ∙ ap up_to (suc-add i (length t) ∙ sym (add-suc i (length t)))
+rows-passed [] i s e = omega (arith, e)
+rows-passed (r ∷ t) i s e = omega (arith, rows-passed t (suc i) (seen_at s r i) (omega arith))
 
 up_to-limit : (n : ℕ) → eqb (up_to n) row_limit ≡ eqb n row_limit
 up_to-limit n =
-    by-test (leb n row_limit) (λ e. rw e) (λ e. rw (e, ne_eqb n row_limit (λ is. true≢false (sym (le-leb n row_limit (omega (arith, is))) ∙ e))))
+    by-test (eqb n row_limit)
+    (λ e. rw e (eq-eqb (up_to n) row_limit (omega (arith, eqb-true n row_limit e))))
+    (λ e. rw e (ne_eqb (up_to n) row_limit (λ is. eqb-false n row_limit e (omega (arith, is)))))
 
 -- the last row of a batch, or d
 abbrev last_for : ℕ → List Row → Row → Row
@@ -117,16 +117,7 @@ a-number-each t is = length-map t _ ∙ is.all_there
 
 -- ---- the whole table
 module _ (b : BatchNo) (t : List Row) where
-  abbrev pub pass : Search
-  pass = passed 0 (begin_at b) t
-
-  -- where no row is left, what was kept is the whole pass
-  pub pass-end : (s : Search) (i : ℕ) → i ≤ length t → length t ≤ i → passed i s (drop i t) ≡ pass → s ≡ pass
-  pass-end s i within past e =
-      let is : i ≡ length t = omega arith in
-      sym (ap (passed i s) (ap (λ (k : ℕ). drop k t) is ∙ drop-length t)) ∙ e
-
-  pub all-batches : length t ≡ row_limit → pass.batches ≡ batches_in t
+  pub all-batches : length t ≡ row_limit → (pass b t).batches ≡ batches_in t
   all-batches len =
       let bs : List ℕ = batches_in t in
       let n : length bs ≡ row_limit = length-map t _ ∙ len in
@@ -136,17 +127,17 @@ module _ (b : BatchNo) (t : List Row) where
       ∙ ap (λ xs. bs ++ xs) (drop-length (replicate row_limit 0))
       ∙ append-nil bs
 
-  pub sound-pass : sound_search pass ≡ sound_table t
+  pub sound-pass : sound_search (pass b t) ≡ sound_table t
   unfolding sound_table
   sound-pass =
-      let rows : eqb pass.rows row_limit ≡ eqb (length t) row_limit =
+      let rows : eqb (pass b t).rows row_limit ≡ eqb (length t) row_limit =
       ap (λ n. eqb n row_limit) (rows-passed t 0 (begin_at b) refl ∙ ap up_to (zero-add (length t))) ∙ up_to-limit (length t) in
       by-test (eqb (length t) row_limit)
       (λ e. rw (rows, e, fine-passed t 0 (begin_at b), all-batches (eqb-true (length t) row_limit e)))
       (λ e. rw (rows, e))
 
   -- the row that was found has the readings of the batch
-  pub readings-passed : sound_table t ≡ true → readings_of pass.found ≡ readings_in b.0 t
+  pub readings-passed : sound_table t ≡ true → readings_of (pass b t).found ≡ readings_in b.0 t
   readings-passed sound =
       let is = clauses t sound in
       let bs : List ℕ = batches_in t in
@@ -169,21 +160,17 @@ module _ (b : BatchNo) (t : List Row) where
 
 -- ---- the calls
 -- what is decided, done to the table, is the table after a call and its answer
-abbrev pub Does : Decision → List Row → Result → Type 0
-Does d t n = (set t d.at d.row ≡ n.table) × (d.answer ≡ n.verdict)
+abbrev pub Does : List Row → Result (ℕ × Row) Refusal → Outcome → Type 0
+Does t (Ok (at, r)) n = (at < length t) × (set t at r ≡ n.table) × (Ok tt ≡ n.verdict)
+Does t (Err r) n = (t ≡ n.table) × (Err r ≡ n.verdict)
 
--- a refusal stores nothing
-refuses : (t : List Row) (r : Refusal) → length t < 2 ^ 64 → Does (unchanged r) t (refused r t)
-refuses t r room = (set_out t no_row empty_row (omega (arith, room)), refl)
+-- and so is the row that a close empties, if there is one
+abbrev pub Empties : List Row → Result (Option ℕ) Refusal → Outcome → Type 0
+Empties t (Ok (Some at)) n = (at < length t) × (set t at empty_row ≡ n.table) × (Ok tt ≡ n.verdict)
+Empties t (Ok None) n = (t ≡ n.table) × (Ok tt ≡ n.verdict)
+Empties t (Err r) n = (t ≡ n.table) × (Err r ≡ n.verdict)
 
-module _ (t : List Row) (room : length t < 2 ^ 64) where
-  -- both ask first whether the table is sound
-  first-sound : (b : BatchNo) (d : Decision) (n : Result) → (sound_table t ≡ true → Does d t n) →
-      Does (unless (sound_search (pass b t)) (unchanged UnsoundRing) d) t (unless (sound_table t) (refused UnsoundRing t) n)
-  first-sound b d n later =
-      subst (λ k. Does (unless k (unchanged UnsoundRing) d) t (unless (sound_table t) (refused UnsoundRing t) n)) (sym (sound-pass b t))
-      (by-test (sound_table t) (λ e. rw e (later e)) (λ e. rw e (refuses t UnsoundRing room)))
-
+module _ (t : List Row) where
   module _ (x : BatchRecord) where
     abbrev b : ℕ
     b = x.batch.0
@@ -191,62 +178,69 @@ module _ (t : List Row) (room : length t < 2 ^ 64) where
     abbrev s : Search
     s = pass x.batch t
 
-    abbrev next : Result
+    abbrev goes : Result (ℕ × Row) Refusal
+    goes = goes_to (home_in b s.batches) (row_with b (joined (readings_of s.found) x.temperature))
+
+    abbrev next : Outcome
     next = unless (has_row b t || has_empty t) (refused NoEmptyRow t) (done (with_reading b x.temperature t))
 
-    -- the definition, in the order of its refusals
-    note-is : note x t ≡ unless (sound_table t) (refused UnsoundRing t) (judged (verdict_of x) (λ r. refused r t) next)
-    unfolding note
-    note-is = refl
-
-    good-noted : sound_table t ≡ true → b ≢ 0 → Does (note_good s b x.temperature) t next
+    good-noted : sound_table t ≡ true → b ≢ 0 → Does t goes next
     good-noted sound nz =
         let is = clauses t sound in
         let bs : List ℕ = batches_in t in
         let long = a-number-each t is in
-        rw (all-batches x.batch t is.all_there, readings-passed x.batch t sound, ne_eqb b 0 nz)
+        rw (all-batches x.batch t is.all_there, readings-passed x.batch t sound, ne_eqb b 0 nz, place-is b bs, place-is 0 bs)
         (by-test (holds b bs)
-        (λ h. rw (h, lt-ltb (place_of b bs) row_limit (omega (arith, ltb-true (place_of b bs) (length bs) h, long))) (refl, refl))
+        (λ h. rw h (omega (arith, ltb-true (place_of b bs) (length bs) h, long, is.all_there), refl, refl))
         (λ h.
         by-test (holds 0 bs)
-        (λ e. rw (h, e, lt-ltb (place_of 0 bs) row_limit (omega (arith, ltb-true (place_of 0 bs) (length bs) e, long))) (refl, refl))
-        (λ e. rw (h, e, le-ltb (place_of 0 bs) row_limit (omega (arith, ltb-false (place_of 0 bs) (length bs) e, long))) (refuses t NoEmptyRow room))))
+        (λ e. rw (h, e) (omega (arith, ltb-true (place_of 0 bs) (length bs) e, long, is.all_there), refl, refl))
+        (λ e. rw (h, e) (refl, refl))))
 
-    by-verdict : sound_table t ≡ true → (v : Verdict) → verdict_of x ≡ v →
-        Does (judged v unchanged (note_good s b x.temperature)) t (judged v (λ r. refused r t) next)
-    by-verdict sound Passed e = good-noted sound (good-number x ((good-exactly x).1 e))
-    by-verdict sound (Refused r) e = refuses t r room
+    by-verdict : sound_table t ≡ true → (v : Verdict) → verdict_of x ≡ v → Does t (judged v Err goes) (judged v (λ r. refused r t) next)
+    by-verdict sound (Ok u) e = good-noted sound (good-number x ((good-exactly x).1 e))
+    by-verdict sound (Err r) e = (refl, refl)
 
-    pub note-passed : Does (to_note s x) t (note x t)
+    pub note-passed : Does t (to_note s x) (note x t)
+    unfolding note
     note-passed =
-        subst (Does (to_note s x) t) (sym note-is)
-        (first-sound x.batch (judged (verdict_of x) unchanged (note_good s b x.temperature)) (judged (verdict_of x) (λ r. refused r t) next)
-        (λ sound. by-verdict sound (verdict_of x) refl))
+        rw (sound-pass x.batch t)
+        (by-test (sound_table t) (λ sound. rw sound (by-verdict sound (verdict_of x) refl)) (λ bad. rw bad (refl, refl)))
 
-  pub close_passed : (b : BatchNo) → Does (to_close (pass b t) b) t (close b.0 t)
+  -- of a pass s and what is decided from it
+  pub noted : (x : BatchRecord) {s : Search} {d : Result (ℕ × Row) Refusal} → s ≡ pass x.batch t → d ≡ to_note s x → Does t d (note x t)
+  noted x is decided = rw (decided, is) (note-passed x)
+
+  pub close_passed : (b : BatchNo) → Empties t (to_close (pass b t) b) (close b.0 t)
   unfolding close
   close_passed b =
-      first-sound b (decide (row_in b.0 (pass b t).batches) empty_row) (done (without_row b.0 t)) (λ sound.
+      rw (sound-pass b t)
+      (by-test (sound_table t)
+      (λ sound.
       let is = clauses t sound in
       let bs : List ℕ = batches_in t in
       let long = a-number-each t is in
-      rw (all-batches b t is.all_there)
+      rw (sound, all-batches b t is.all_there, place-is b.0 bs)
       (by-test (is_zero b.0)
-      (λ z. rw z (set_out t row_limit empty_row (omega (arith, is.all_there)), refl))
+      (λ z. rw z (refl, refl))
       (λ nz.
       by-test (holds b.0 bs)
-      (λ h. rw (nz, h) (refl, refl))
-      (λ h. rw (nz, h) (set_out t (place_of b.0 bs) empty_row (omega (arith, ltb-false (place_of b.0 bs) (length bs) h, long, is.all_there)), refl)))))
+      (λ h. rw (nz, h) (omega (arith, ltb-true (place_of b.0 bs) (length bs) h, long, is.all_there), refl, refl))
+      (λ h. rw (nz, h) (refl, refl)))))
+      (λ bad. rw bad (refl, refl)))
+
+  pub closed : (b : BatchNo) {s : Search} {d : Result (Option ℕ) Refusal} → s ≡ pass b t → d ≡ to_close s b → Empties t d (close b.0 t)
+  closed b is decided = rw (decided, is) (close_passed b)
 
 pub tell-passed : (b : BatchNo) (t : List Row) → to_tell (pass b t) ≡ figures b.0 t
 unfolding figures
 tell-passed b t =
-    ap (λ k. unless k (NotAnswered UnsoundRing) (figures_of (readings_of (pass b t).found))) (sound-pass b t)
-    ∙ by-test (sound_table t) (λ e. rw e (ap figures_of (readings-passed b t e))) (λ e. rw e)
+    rw (sound-pass b t)
+    (by-test (sound_table t) (λ e. rw e (ap (λ xs. Ok (figures_of xs)) (readings-passed b t e))) (λ e. rw e))
 
 pub list-passed : (i : ℕ) (t : List Row) → to_list (pass (record { 0 = 0 }) t) i ≡ batch_in i t
 unfolding batch_in
 list-passed i t =
     let none : BatchNo = record { 0 = 0 } in
-    ap (λ k. unless k (row.Refused UnsoundRing) (batch_or_none (get_or (pass none t).batches i 0))) (sound-pass none t)
-    ∙ by-test (sound_table t) (λ e. rw (e, all-batches none t (clauses t e).all_there)) (λ e. rw e)
+    rw (sound-pass none t)
+    (by-test (sound_table t) (λ e. rw (e, all-batches none t (clauses t e).all_there)) (λ e. rw e))

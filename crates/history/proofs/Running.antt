@@ -13,15 +13,15 @@ use lib.Seq.{get_or-set_same, get_or-set_other, set-get_or, take-append_seam, dr
 use borrow.Author.Tests.{eq-eqb, ne_eqb, le-leb, lt-ltb, leb-true, leb-false, ltb-true, ltb-false, eqb-true, eqb-false}
 use Rattle.refusal.specs.declared.Refusal.{Refusal}
 use Rattle.refusal.specs.declared.Refusal.TheVariants.{UnsoundRing, NoEmptyRow}
-use Rattle.refusal.specs.declared.Verdict.{Verdict}
-use Rattle.refusal.specs.declared.Verdict.TheVariants.{Passed, Refused}
+use Rattle.std.specs.Prelude.{Ok, Err}
+use Rattle.refusal.specs.Number.{Verdict}
 use Rattle.batch.specs.declared.BatchRecord.{BatchRecord}
 use Rattle.batch.specs.Good.{every, is_zero, in_range, unless, verdict_of}
 use Rattle.batch.proofs.Good.{good-exactly, good-number, good-clauses, temp-tested}
 use Rattle.numbers.proofs.Splits.{by-test}
 use Rattle.history.specs.declared.Row.{Row}
 use Rattle.history.specs.Table.{row_limit, reading_limit, row_with, empty_row, empty_table, is_nought, count_good, sound_row, batches_in, place_of, holds, none_twice, sound_table, has_row, row_of, has_empty, readings_of, readings_in}
-use Rattle.history.specs.History.{Result, note, close, figures, refused, done, judged, last_of, joined, home, figures_of}
+use Rattle.history.specs.History.{Outcome, note, close, figures, refused, done, judged, last_of, joined, home, figures_of}
 use Rattle.history.specs.Runs.{Call, noting, closing, made, table_after, accepts, accepted, last_readings, batch_of, row_for, StaysSound, LastReadings, FiguresAfresh, FromSound, FromEmpty, OneRow, ItsRow, OthersUntouched}
 use Rattle.history.proofs.Rewritten.{place_at, place_set, place_other, twice-set, gone}
 use Rattle.history.proofs.Passing.{Sound, clauses, together}
@@ -195,18 +195,18 @@ module _ (x : BatchRecord) (t : List Row) where
   abbrev noted : List Row
   noted = set t (home b t) (row_with b xs)
 
-  module _ (P : Result → Type 0) (bad : (r : Refusal) → P (refused r t))
-      (good : sound_table t ≡ true → verdict_of x ≡ Passed → (has_row b t || has_empty t) ≡ true → P (done noted)) where
+  module _ (P : Outcome → Type 0) (bad : (r : Refusal) → P (refused r t))
+      (good : sound_table t ≡ true → verdict_of x ≡ Ok tt → (has_row b t || has_empty t) ≡ true → P (done noted)) where
     by-verdict : sound_table t ≡ true → (v : Verdict) → verdict_of x ≡ v →
         P (judged v (λ r. refused r t) (unless (has_row b t || has_empty t) (refused NoEmptyRow t) (done noted)))
-    by-verdict sound (Refused r) e = bad r
-    by-verdict sound Passed e = by-test (has_row b t || has_empty t) (λ room. rw room (good sound e room)) (λ none. rw none (bad NoEmptyRow))
+    by-verdict sound (Err r) e = bad r
+    by-verdict sound (Ok u) e = by-test (has_row b t || has_empty t) (λ room. rw room (good sound e room)) (λ none. rw none (bad NoEmptyRow))
 
     note-by : P (note x t)
     unfolding note
     note-by = by-test (sound_table t) (λ sound. rw sound (by-verdict sound (verdict_of x) refl)) (λ e. rw e (bad UnsoundRing))
 
-module _ (b : ℕ) (t : List Row) (P : Result → Type 0) where
+module _ (b : ℕ) (t : List Row) (P : Outcome → Type 0) where
   close-by : P (refused UnsoundRing t) → (sound_table t ≡ true → has_row b t ≡ true → P (done (set t (row_of b t) empty_row))) →
       (sound_table t ≡ true → has_row b t ≡ false → P (done t)) → P (close b t)
   unfolding close
@@ -216,7 +216,7 @@ module _ (b : ℕ) (t : List Row) (P : Result → Type 0) where
       (λ e. rw e bad)
 
 -- ---- a record that was noted
-module _ (x : BatchRecord) (t : List Row) (sound : sound_table t ≡ true) (good : verdict_of x ≡ Passed) (room : (has_row (b x t) t || has_empty t) ≡ true) where
+module _ (x : BatchRecord) (t : List Row) (sound : sound_table t ≡ true) (good : verdict_of x ≡ Ok tt) (room : (has_row (b x t) t || has_empty t) ≡ true) where
   abbrev c : ℕ
   c = b x t
 
@@ -318,7 +318,7 @@ stays (noting x) t sound = note-by x t (λ n. sound_table n.table ≡ true) (λ 
 stays (closing c) t sound = close-by c t (λ n. sound_table n.table ≡ true) sound (λ _ has. closed-sound c t sound has) (λ _ none. sound)
 
 -- the readings of a batch follow what is accepted for it
-abbrev Follows : ℕ → Call → List ℤ → Result → Type 0
+abbrev Follows : ℕ → Call → List ℤ → Outcome → Type 0
 Follows b a ys n = readings_in b n.table ≡ last_of reading_limit (accepts b a n.verdict ys)
 
 follows : (k : ℕ) (a : Call) (t : List Row) (ys : List ℤ) → readings_in k t ≡ last_of reading_limit ys → Follows k a ys (made a t)
@@ -380,7 +380,7 @@ last-readings calls k = readings-after calls k empty_table [] (no-readings k)
 
 pub figures-afresh : FiguresAfresh
 unfolding figures
-figures-afresh calls k = rw (stays-sound calls) (ap figures_of (last-readings calls k))
+figures-afresh calls k = rw (stays-sound calls) (ap (λ xs. Ok (figures_of xs)) (last-readings calls k))
 
 -- a sound row, and so a batch on a sound table, has at most 24 readings
 few-readings : (r : Row) → sound_row r ≡ true → r.count ≤ reading_limit
@@ -405,9 +405,9 @@ last-from t sound calls k =
     readings-after calls k t (readings_in k t) (sym (last-few reading_limit (readings_in k t) (few-in k t sound)))
 
 figures-from :
-    (t : List Row) → sound_table t ≡ true → (calls : List Call) (k : ℕ) → figures k (table_after calls t) ≡ figures_of (last_readings k calls t)
+    (t : List Row) → sound_table t ≡ true → (calls : List Call) (k : ℕ) → figures k (table_after calls t) ≡ Ok (figures_of (last_readings k calls t))
 unfolding figures
-figures-from t sound calls k = rw (sound-after calls t sound) (ap figures_of (last-from t sound calls k))
+figures-from t sound calls k = rw (sound-after calls t sound) (ap (λ xs. Ok (figures_of xs)) (last-from t sound calls k))
 
 pub from_sound : FromSound
 from_sound = record { stays-sound = λ t sound calls. sound-after calls t sound; last-readings = last-from; figures-afresh = figures-from }

@@ -6,6 +6,7 @@ use Prim.Native.Nat.{ℕ}
 use lib.IntN.{ℤ}
 use lib.ListN.{get_or}
 use borrow.Author.Tests.{eqb-true}
+use Rattle.std.specs.Prelude.{Ok}
 use Rattle.batch.specs.Good.{is_zero, batch_good, temp_good, name_length_good, name_good, widths_good, verdict_of}
 use Rattle.numbers.proofs.Splits.{by-test}
 use Rattle.history.specs.Table.{empty_row, readings_of, batches_in, sound_table, has_row, row_of, has_empty}
@@ -33,7 +34,7 @@ pub close-said : CloseSaid
 unfolding close
 close-said b t = by-test (sound_table t) (λ e. rw e) (λ e. rw e)
 
-of-readings : (xs : List ℤ) → told_in (figures_of xs) ≡ told_of xs
+of-readings : (xs : List ℤ) → told_in (Ok (figures_of xs)) ≡ told_of xs
 of-readings [] = refl
 of-readings (x ∷ xs) = refl
 
@@ -44,7 +45,7 @@ figures-said b t =
     (λ e. rw e (by-test (has_row b t) (λ has. rw has (of-readings (readings_of (get_or t (row_of b t) empty_row)))) (λ none. rw none)))
     (λ e. rw e)
 
-of-batch : (b : ℕ) → batch_told_in (batch_or_none b) ≡ tells_batch 0 b
+of-batch : (b : ℕ) → batch_told_in (Ok (batch_or_none b)) ≡ tells_batch 0 b
 of-batch b = by-test (is_zero b) (λ z. rw z (ap (tells_batch 0) (sym (eqb-true b 0 z)))) (λ nz. rw nz)
 
 pub batch-said : BatchSaid

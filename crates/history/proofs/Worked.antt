@@ -11,7 +11,7 @@ use Rattle.refusal.specs.Number.{verdict_number}
 use Rattle.batch.specs.Good.{verdict_of, batch_good, temp_good, name_length_good, name_good, widths_good, name_cells_good}
 use Rattle.history.specs.declared.Row.{Row}
 use Rattle.history.specs.Table.{empty_row, empty_table, sound_table, sound_row}
-use Rattle.history.specs.History.{Result, refused, note, close, figures, done, batch_in}
+use Rattle.history.specs.History.{Outcome, refused, note, close, figures, done, batch_in}
 use Rattle.history.specs.Runs.{Call, noting, closing, made, table_after}
 use Rattle.history.specs.Examples.{reading, after, verdicts, row, tells, hot, OneReading, OldestGoes, FiguresFollow, ZerosCount, ThousandsNoted, RangeEdges, Closed, NoRow, FullTable, RecordFirst, RowsTold, Says25, UnsoundTables, LookedUp25, UnsoundLookedUp}
 
@@ -148,12 +148,12 @@ verdicts-then (a ∷ before) calls t = ap (λ ns. verdict_number (made a t).verd
 module _ (a : Call) (t : List Row) (stays : made a t ≡ done t) where
   table_stays : (n : ℕ) → table_after (replicate n a) t ≡ t
   table_stays zero = refl
-  table_stays (suc n) = ap (λ (m : Result). table_after (replicate n a) m.table) stays ∙ table_stays n
+  table_stays (suc n) = ap (λ (m : Outcome). table_after (replicate n a) m.table) stays ∙ table_stays n
 
   all_done : (n : ℕ) → verdicts (replicate n a) t ≡ replicate n 0
   all_done zero = refl
   all_done (suc n) =
-      ap (λ (m : Result). verdict_number m.verdict ∷ verdicts (replicate n a) m.table) stays
+      ap (λ (m : Outcome). verdict_number m.verdict ∷ verdicts (replicate n a) m.table) stays
       ∙ ap (λ ns. 0 ∷ ns) (all_done n)
 
 -- such a call is a note of 12000 on the table with 24 readings of 12000

@@ -1,15 +1,12 @@
 -- The history, pinned down by worked lists of calls: what they answer, by number and 0 where it is done; the rows that they leave; and the
 -- figures told then.
-use Rattle.std.specs.Prelude.{ℕ, zero, suc, ◌≤◌, ◌≡◌, List, [], ◌∷◌, ◌++◌, map, ℤ, pos, neg_ℤ, get_or, set, replicate}
+use Rattle.std.specs.Prelude.{ℕ, zero, suc, ◌≤◌, ◌≡◌, List, [], ◌∷◌, ◌++◌, map, ℤ, pos, neg_ℤ, get_or, set, replicate, Some, None, Ok, Err}
 use Rattle.refusal.specs.declared.Refusal.TheVariants.{UnsoundRing}
 use Rattle.refusal.specs.Number.{verdict_number}
 use Rattle.batch.specs.Good.{record_of}
-use Rattle.history.specs.declared.Figures.{Figures}
-use Rattle.history.specs.declared.Figures.TheVariants.{None, Of, Refused as NotAnswered}
-use Rattle.history.specs.declared.InRow.TheVariants as stands
 use Rattle.history.specs.declared.Row.{Row}
 use Rattle.history.specs.Table.{empty_row, empty_table}
-use Rattle.history.specs.History.{refused, figures, batch_in}
+use Rattle.history.specs.History.{refused, Figures, figures, batch_in}
 use Rattle.history.specs.Runs.{Call, noting, closing, made, table_after}
 
 -- ---- what the lists are made of
@@ -38,7 +35,7 @@ zeros n = replicate n (pos 0)
 
 -- figures by lowest, highest and sum
 abbrev pub tells : ℤ → ℤ → ℤ → Figures
-tells low high all = Of (record { lowest = low; highest = high; sum = all })
+tells low high all = Ok (Some (record { lowest = low; highest = high; sum = all }))
 
 -- n numbers from k on
 abbrev pub from : ℕ → ℕ → List ℕ
@@ -50,11 +47,11 @@ abbrev pub first_reading : List Call
 first_reading = reading 7 (pos 612) ∷ []
 
 pub record OneReading : Type 0 where
-  pub none_before : figures 7 empty_table ≡ None
+  pub none_before : figures 7 empty_table ≡ Ok None
   pub answered : verdicts first_reading empty_table ≡ 0 ∷ []
   pub taken : after first_reading ≡ row 7 1 (pos 612 ∷ zeros 23) ∷ replicate 127 (row 0 0 (zeros 24))
   pub told : figures 7 (after first_reading) ≡ tells (pos 612) (pos 612) (pos 612)
-  pub none-of-another : figures 8 (after first_reading) ≡ None
+  pub none-of-another : figures 8 (after first_reading) ≡ Ok None
 
 -- the readings 1 to n
 abbrev pub rising : ℕ → List Call
@@ -125,7 +122,7 @@ pub record Closed : Type 0 where
   pub answered : verdicts first_replaced empty_table ≡ 0 ∷ 0 ∷ 0 ∷ 0 ∷ []
   pub all-zero : after (rising 24 ++ closing 7 ∷ []) ≡ empty_table
   pub emptied : row_at 0 (after first_closed) ≡ row 0 0 (zeros 24)
-  pub none_then : figures 7 (after first_closed) ≡ None
+  pub none_then : figures 7 (after first_closed) ≡ Ok None
   -- the lowest empty row is taken, and the other batch keeps its row
   pub replaced : row_at 0 (after first_replaced) ≡ row 9 1 (pos 3 ∷ zeros 23)
   pub other_row : row_at 1 (after first_replaced) ≡ row 8 1 (pos 2 ∷ zeros 23)
@@ -141,7 +138,7 @@ pub record Closed : Type 0 where
 pub record NoRow : Type 0 where
   pub answered : verdicts (closing 7 ∷ closing 0 ∷ []) empty_table ≡ 0 ∷ 0 ∷ []
   pub as_before : after (closing 7 ∷ closing 0 ∷ []) ≡ empty_table
-  pub zero-told : figures 0 empty_table ≡ None
+  pub zero-told : figures 0 empty_table ≡ Ok None
   pub in_use : after (first_reading ++ closing 8 ∷ closing 0 ∷ []) ≡ after first_reading
 
 -- ---- the full table: batches 1 to 128 in rows 0 to 127
@@ -185,15 +182,15 @@ pub record BlankEndsNoted : Type 0 where
 
 -- the batch of each row, and none of a row that is empty or that no table has
 pub record RowsTold : Type 0 where
-  pub emptied : batch_in 0 (after first_closed) ≡ stands.None
-  pub in_use : batch_in 1 (after first_closed) ≡ stands.Batch (record { 0 = 8 })
-  pub last : batch_in 127 full ≡ stands.Batch (record { 0 = 128 })
-  pub past-the-last : batch_in 128 full ≡ stands.None
+  pub emptied : batch_in 0 (after first_closed) ≡ Ok None
+  pub in_use : batch_in 1 (after first_closed) ≡ Ok (Some (record { 0 = 8 }))
+  pub last : batch_in 127 full ≡ Ok (Some (record { 0 = 128 }))
+  pub past-the-last : batch_in 128 full ≡ Ok None
 
 -- ---- unsound tables: every call is refused with 25 and changes nothing, also where the record is bad or the batch has no row
 pub record Says25 (t : List Row) : Type 0 where
   pub called : (a : Call) → made a t ≡ refused UnsoundRing t
-  pub asked : (b : ℕ) → figures b t ≡ NotAnswered UnsoundRing
+  pub asked : (b : ℕ) → figures b t ≡ Err UnsoundRing
 
 -- and a sound one, for comparison: a batch that has no row there is closed
 abbrev pub Accepted : List Row → Type 0
@@ -231,7 +228,7 @@ pub record UnsoundTables : Type 0 where
 
 -- and no batch of a row is told in them, whichever row is asked for
 pub record LookedUp25 (t : List Row) : Type 0 where
-  pub told : (i : ℕ) → batch_in i t ≡ stands.Refused UnsoundRing
+  pub told : (i : ℕ) → batch_in i t ≡ Err UnsoundRing
 
 pub record UnsoundLookedUp : Type 0 where
   pub no-readings : LookedUp25 (with3 (row 7 0 (zeros 24)))

@@ -2,22 +2,21 @@
 -- the temperatures accepted for it since its last close, oldest first; and its figures are those of these readings. A record that send
 -- refuses for the ends of its name is taken as any good one. From any other sound table they are the last 24 of those that it held there and
 -- of those accepted.
-use Rattle.std.specs.Prelude.{ℕ, ◌≡◌, ◌≢◌, true, cond, ◌||◌, List, [], ◌∷◌, ◌++◌, eqb, ℤ, length, get_or}
+use Rattle.std.specs.Prelude.{ℕ, ◌≡◌, ◌≢◌, true, cond, ◌||◌, List, [], ◌∷◌, ◌++◌, eqb, ℤ, length, get_or, Ok, Err}
 use Rattle.refusal.specs.declared.Refusal.TheVariants.{BlankEnd}
-use Rattle.refusal.specs.declared.Verdict.{Verdict}
-use Rattle.refusal.specs.declared.Verdict.TheVariants.{Passed, Refused}
+use Rattle.refusal.specs.Number.{Verdict}
 use Rattle.batch.specs.declared.BatchRecord.{BatchRecord}
 use Rattle.batch.specs.Good.{send_verdict}
 use Rattle.history.specs.declared.Row.{Row}
 use Rattle.history.specs.Table.{reading_limit, empty_row, empty_table, sound_table, has_row, row_of, has_empty, readings_in}
-use Rattle.history.specs.History.{Result, done, home, note, with_reading, close, figures, figures_of, last_of}
+use Rattle.history.specs.History.{Outcome, done, home, note, with_reading, close, figures, figures_of, last_of}
 
 -- a call that may change the table
 pub data Call : Type 0 where
   noting : BatchRecord → Call
   closing : ℕ → Call
 
-abbrev pub made : Call → List Row → Result
+abbrev pub made : Call → List Row → Outcome
 made (noting x) t = note x t
 made (closing b) t = close b t
 
@@ -27,9 +26,9 @@ table_after (a ∷ rest) t = table_after rest (made a t).table
 
 -- the temperatures accepted for batch b since its last close, oldest first: xs before a call, and after it
 abbrev pub accepts : ℕ → Call → Verdict → List ℤ → List ℤ
-accepts b a (Refused r) xs = xs
-accepts b (noting x) Passed xs = cond (eqb x.batch.0 b) (xs ++ x.temperature ∷ []) xs
-accepts b (closing c) Passed xs = cond (eqb c b) [] xs
+accepts b a (Err r) xs = xs
+accepts b (noting x) (Ok u) xs = cond (eqb x.batch.0 b) (xs ++ x.temperature ∷ []) xs
+accepts b (closing c) (Ok u) xs = cond (eqb c b) [] xs
 
 -- and after a list of calls on the table t
 abbrev pub accepted : ℕ → List Call → List Row → List ℤ → List ℤ
@@ -46,7 +45,7 @@ LastReadings =
 
 abbrev pub FiguresAfresh : Type 0
 FiguresAfresh =
-    (calls : List Call) (b : ℕ) → figures b (table_after calls empty_table) ≡ figures_of (last_of reading_limit (accepted b calls empty_table []))
+    (calls : List Call) (b : ℕ) → figures b (table_after calls empty_table) ≡ Ok (figures_of (last_of reading_limit (accepted b calls empty_table [])))
 
 -- ---- from any sound table: of batch b, its readings in the table t, and those accepted for it by the calls
 abbrev pub last_readings : ℕ → List Call → List Row → List ℤ
@@ -57,7 +56,7 @@ pub record FromSound : Type 0 where
   pub last-readings :
       (t : List Row) → sound_table t ≡ true → (calls : List Call) (b : ℕ) → readings_in b (table_after calls t) ≡ last_readings b calls t
   pub figures-afresh :
-      (t : List Row) → sound_table t ≡ true → (calls : List Call) (b : ℕ) → figures b (table_after calls t) ≡ figures_of (last_readings b calls t)
+      (t : List Row) → sound_table t ≡ true → (calls : List Call) (b : ℕ) → figures b (table_after calls t) ≡ Ok (figures_of (last_readings b calls t))
 
 -- The empty table is such a table, and no batch has readings in it: from there they are the last of those accepted, and of no others.
 pub record FromEmpty : Type 0 where
@@ -92,5 +91,5 @@ OthersUntouched = (a : Call) (t : List Row) (b : ℕ) → batch_of a ≢ b → r
 abbrev pub TakesBlankEnds : Type 0
 TakesBlankEnds =
     (x : BatchRecord) (t : List Row) →
-    send_verdict x ≡ Refused BlankEnd → sound_table t ≡ true → (has_row x.batch.0 t || has_empty t) ≡ true →
+    send_verdict x ≡ Err BlankEnd → sound_table t ≡ true → (has_row x.batch.0 t || has_empty t) ≡ true →
     note x t ≡ done (with_reading x.batch.0 x.temperature t)

@@ -1,16 +1,12 @@
 -- What documents 01 and 02 have the questions and calls on a history answer, in their numbers and values: each refusal by its own number and
 -- its own test, in their order, and 0 for a call that is done. What the code answers says just that.
-use Rattle.std.specs.Prelude.{ℕ, ◌≡◌, Bool, true, false, ◌&&◌, ◌||◌, List, [], ◌∷◌, ℤ, pos, get_or}
+use Rattle.std.specs.Prelude.{ℕ, ◌≡◌, Bool, true, false, ◌&&◌, ◌||◌, List, [], ◌∷◌, ℤ, pos, get_or, Some, None, Ok, Err}
 use Rattle.refusal.specs.Number.{number_of, verdict_number}
 use Rattle.batch.specs.declared.BatchRecord.{BatchRecord}
 use Rattle.batch.specs.Good.{unless, batch_good, temp_good, name_length_good, name_good, widths_good}
-use Rattle.history.specs.declared.Figures.{Figures}
-use Rattle.history.specs.declared.Figures.TheVariants.{None, Of, Refused}
-use Rattle.history.specs.declared.InRow.{InRow}
-use Rattle.history.specs.declared.InRow.TheVariants as row
 use Rattle.history.specs.declared.Row.{Row}
 use Rattle.history.specs.Table.{sound_table, batches_in, has_row, has_empty, readings_in}
-use Rattle.history.specs.History.{note, close, figures, lowest, highest, sum, batch_in}
+use Rattle.history.specs.History.{note, close, Figures, figures, lowest, highest, sum, InRow, batch_in}
 
 -- ---- note and close: a number alone
 -- of a record: 11 batch number 0; 12 temperature out of range; 13 name length over 32; 14 a name byte or the fill is wrong; else what comes
@@ -52,9 +48,9 @@ abbrev pub none_told : ℕ → FiguresTold
 none_told n = record { number = n; any = false; lowest = pos 0; highest = pos 0; sum = pos 0 }
 
 abbrev pub told_in : Figures → FiguresTold
-told_in None = none_told 0
-told_in (Of s) = record { number = 0; any = true; lowest = s.lowest; highest = s.highest; sum = s.sum }
-told_in (Refused r) = none_told (number_of r)
+told_in (Ok None) = none_told 0
+told_in (Ok (Some s)) = record { number = 0; any = true; lowest = s.lowest; highest = s.highest; sum = s.sum }
+told_in (Err r) = none_told (number_of r)
 
 -- of readings, oldest first
 abbrev pub told_of : List ℤ → FiguresTold
@@ -77,9 +73,9 @@ abbrev pub tells_batch : ℕ → ℕ → BatchTold
 tells_batch n b = record { number = n; batch = b }
 
 abbrev pub batch_told_in : InRow → BatchTold
-batch_told_in row.None = tells_batch 0 0
-batch_told_in (row.Batch b) = tells_batch 0 b.0
-batch_told_in (row.Refused r) = tells_batch (number_of r) 0
+batch_told_in (Ok None) = tells_batch 0 0
+batch_told_in (Ok (Some b)) = tells_batch 0 b.0
+batch_told_in (Err r) = tells_batch (number_of r) 0
 
 abbrev pub batch_said : ℕ → List Row → BatchTold
 batch_said i t = unless (sound_table t) (tells_batch 25 0) (tells_batch 0 (get_or (batches_in t) i 0))

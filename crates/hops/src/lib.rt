@@ -5,7 +5,7 @@
 ghost use Rattle.std.specs.Prelude.{◌≡◌};
 ghost use Rattle.hops.specs.Hops.{hops_between};
 
-// The answer for a node that the ring does not have.
+// The answer for a node that the ring does not have: 0 and no `Option`, as `hops_between` and the theorem `WorkedHops` have it.
 const NO_NODE: u8 = 0;
 
 // Hops from node p to node q on a ring of n nodes: on to q where it lies ahead, else past the last node and round.

@@ -1,8 +1,8 @@
 -- Laws of a test and its statement (specs/Decides): of an answer of no, of comparisons, and of tests joined by "and".
 use Prim.Native.Nat.{ℕ, ◌≤◌, ◌<◌}
-use mathlib.Core.Path.{◌≡◌, sym, ◌∙◌}
+use mathlib.Core.Path.{◌≡◌, refl, sym, ◌∙◌}
 use mathlib.Core.Logic.{◌↔◌}
-use mathlib.Core.Bool.{Bool, true, false, ◌&&◌, false≢true}
+use mathlib.Core.Bool.{Bool, true, false, not, ◌&&◌, false≢true}
 use native.Mathlib.Omega.{arith}
 use lib.Bits.{bit_or, or_add_and, and_le_l, and_le_r}
 use lib.Dec.{eqb, leb, ltb}
@@ -34,6 +34,15 @@ decides-most a b = record { holds = leb-true a b; passes = le-leb a b }
 pub decides-same : (a b : ℕ) → Decides (eqb a b) (a ≡ b)
 decides-same a b = record { holds = eqb-true a b; passes = eq-eqb a b }
 
+-- a test itself, and its contrary
+
+pub decides-on : (b : Bool) → Decides b (b ≡ true)
+decides-on b = record { holds = λ e. e; passes = λ e. e }
+
+pub decides-off : (b : Bool) → Decides (not b) (b ≡ false)
+decides-off true = record { holds = λ e. absurd (false≢true e); passes = λ e. absurd (false≢true (sym e)) }
+decides-off false = record { holds = λ e. refl; passes = λ e. refl }
+
 -- tests joined
 
 module _ {a b : Bool} {A B : Type 0} (first : Decides a A) (second : Decides b B) where
@@ -43,6 +52,15 @@ module _ {a b : Bool} {A B : Type 0} (first : Decides a A) (second : Decides b B
         holds = λ e. (first.holds (and_left a b e), second.holds (and_right a b e));
         passes = λ p. and_both a b (first.passes p.0) (second.passes p.1);
       }
+
+-- two tests, of which the second is made where the first passes: what both say
+module _ {a v : Bool} {A B : Type 0} (first : Decides a A) where
+  pub both-pass : {b : Bool} → Decides b B → a ≡ true → v ≡ b → Decides v (A × B)
+  both-pass second e same =
+      record { holds = λ h. (first.holds e, second.holds (sym same ∙ h)); passes = λ p. same ∙ second.passes p.1 }
+
+  pub first-fails : a ≡ false → v ≡ a → Decides v (A × B)
+  first-fails e same = rw (same ∙ e) (says-no (λ p. both_ways (first.passes p.0) e))
 
 -- numbers joined by "or" are zero where all are
 

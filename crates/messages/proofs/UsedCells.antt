@@ -14,7 +14,7 @@ use Rattle.network.specs.Layout.{row_length, padded, cells_of, queue_of}
 use Rattle.network.proofs.Ground.Splits.{by-same, by_less}
 use Rattle.network.proofs.Ground.Counting.{count_same, count-other, sum_same, sum_ones, sum-beyond}
 use Rattle.network.proofs.Memory.Rows.{padded-is}
-use Rattle.messages.specs.RowPass.{cells_in_use}
+use Rattle.messages.specs.Messages.{cells_in_use}
 
 -- used cells, each with a channel in use
 

@@ -1,18 +1,24 @@
 -- Rows of cells, and cells that are zero: what is laid out where there is nothing, and the rows beyond those in use.
 use Prim.Native.Nat.{ℕ, ◌+◌, ◌*◌, ◌-◌, ◌/◌, ◌%◌, ◌≤◌, ◌<◌}
-use mathlib.Core.Path.{◌≡◌, sym, ap, ◌∙◌}
+use mathlib.Core.Path.{◌≡◌, refl, sym, ap, ◌∙◌}
 use mathlib.Core.List.{List, []}
 use mathlib.Core.Logic.{◌↔◌}
 use native.Mathlib.Nat.{mul-le-mul_left, div-add-mod, mod-lt}
 use native.Mathlib.Omega.{arith}
 use lib.Bits.{bit_or}
+use lib.Dec.{eqb}
 use lib.ListN.{length, get_or, take, drop, length-take, get_or-eq_default}
 use lib.Seq.{get_or-take, get_or-drop}
+use Rattle.std.specs.List.{zip}
+use Rattle.std.proofs.lemmas.Grind.{get_or_default_zero}
+use Rattle.std.proofs.lemmas.Slice.Zip.{length-zip, get_or-zip}
 use Rattle.network.specs.Layout.{row, padded}
 use Rattle.network.proofs.Ground.Splits.{by_less}
 use Rattle.network.proofs.Memory.Rows.{padded-is, padded-none, get_d-blanks, row-end, row-length, get_d-row}
 use Rattle.messages.specs.Messages.{Blank}
-use Rattle.messages.proofs.Decides.{or-zero}
+use Rattle.messages.specs.Decides.{Decides}
+use Rattle.messages.proofs.Decides.{or-zero, restated, decides-same}
+use Rattle.messages.proofs.Loops.{Judging}
 
 -- the part of the cells that is lent as row p
 pub part-is-row : (w : ℕ) (cells : List ℕ) (p : ℕ) → take (w * p + w - w * p) (drop (w * p) cells) ≡ row w cells p
@@ -108,3 +114,44 @@ four-zero any a b c d = (
       (all.0, ((or-zero _ _).0 two.0, (two.1, three.1)))),
   (λ h. (or-zero _ _).1 (h.0, (or-zero _ _).1 ((or-zero _ _).1 ((or-zero _ _).1 h.1.0, h.1.1.0), h.1.1.1))),
 )
+
+-- the four as one list, of two pairs for each place
+module _ (a b c d : List ℕ) (same : (length b ≡ length a) × (length c ≡ length a) × (length d ≡ length a)) where
+  pub length-fours : length (zip (zip a b) (zip c d)) ≡ length a
+  length-fours = omega (arith, length-zip (zip a b) (zip c d), length-zip a b, length-zip c d)
+
+  pub four-at : (i : ℕ) {p q r s : ℕ} → i < length (zip (zip a b) (zip c d)) →
+      ◌≡◌ {A = (ℕ × ℕ) × (ℕ × ℕ)} ((p, q), (r, s)) (get_or (zip (zip a b) (zip c d)) i ((p, q), (r, s))) →
+      (i < length a) × ((p ≡ get_or a i 0) × (q ≡ get_or b i 0)) × ((r ≡ get_or c i 0) × (s ≡ get_or d i 0))
+  four-at i {p} {q} {r} {s} l e =
+      let front = length-zip a b in
+      let back = length-zip c d in
+      let inside : i < length a = omega (arith, length-fours) in
+      let at : ◌≡◌ {A = (ℕ × ℕ) × (ℕ × ℕ)} ((p, q), (r, s)) ((get_or a i p, get_or b i q), (get_or c i r, get_or d i s)) =
+      e
+      ∙ get_or-zip (zip a b) (zip c d) i ((p, q), (r, s)) (omega arith) (omega arith)
+      ∙ rw (get_or-zip a b i (p, q) (omega arith) (omega arith), get_or-zip c d i (r, s) (omega arith) (omega arith)) refl in (
+        inside,
+        (ap (λ x. x.0.0) at ∙ get_or_default_zero a i p inside, ap (λ x. x.0.1) at ∙ get_or_default_zero b i q (omega arith)),
+        (ap (λ x. x.1.0) at ∙ get_or_default_zero c i r (omega arith), ap (λ x. x.1.1) at ∙ get_or_default_zero d i s (omega arith)),
+      )
+
+-- the four are zero exactly when they are at each place
+pub all-blank : (a b c d : List ℕ) {any n i : ℕ} → (length b ≡ length a) × (length c ≡ length a) × (length d ≡ length a) →
+    length a ≡ i → Judging (AllZero a b c d) n any i → Decides (eqb any 0) ((Blank a × Blank b) × (Blank c × Blank d))
+all-blank a b c d {any} {n} {i} same past judged =
+    let beyond : (xs : List ℕ) (j : ℕ) → length xs ≡ length a → i ≤ j → get_or xs j 0 ≡ 0 =
+    λ xs j e l. get_or-eq_default xs 0 (omega arith) in
+    restated
+    (λ none.
+    let at = judged.right none in (
+      (
+        λ j. by_less j i (λ l. (at j l).0.0) (beyond a j refl),
+        λ j. by_less j i (λ l. (at j l).0.1) (beyond b j same.0),
+      ),
+      (
+        λ j. by_less j i (λ l. (at j l).1.0) (beyond c j same.1),
+        λ j. by_less j i (λ l. (at j l).1.1) (beyond d j same.2),
+      ),
+    ))
+    (λ zero. judged.none (λ j l. ((zero.0.0 j, zero.0.1 j), (zero.1.0 j, zero.1.1 j)))) (decides-same any 0)

@@ -1,4 +1,3 @@
 -- What the tests of the cells and the messages decide.
 pub mod Decides
-pub mod RowPass
 pub mod Messages

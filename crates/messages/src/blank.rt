@@ -11,11 +11,11 @@ fn all_four(front: &[u8], back: &[u8], other_front: &[u8], other_back: &[u8]) ->
     ensures { Decides result ((Blank front.now × Blank back.now)
         × (Blank other_front.now × Blank other_back.now)) }
 {
+    let cells = front.iter().zip(back);
+    let others = other_front.iter().zip(other_back);
     let mut any: u8 = 0;
-    let mut i = 0;
-    while i < front.len() {
-        any |= front[i] | back[i] | other_front[i] | other_back[i];
-        i += 1;
+    for ((a, b), (c, d)) in cells.zip(others) {
+        any |= a | b | c | d;
     }
     any == 0
 }

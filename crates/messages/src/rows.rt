@@ -1,31 +1,36 @@
-// The rows of cells, and where each message stands. The pass over a row notes in a table, for each channel that it meets, the place where
-// it was met, and stops at a channel that was met already. A place is a number: the buffers have one each, and the lines.
-ghost use Rattle.std.specs.Prelude.{◌≡◌, ◌+◌, ◌<◌, ◌≤◌, length};
-ghost use Rattle.network.specs.Layout.{node_room, channel_room, row_length, cell_room};
-ghost use Rattle.messages.specs.RowPass.{mark, cells_in_use, mark_row, mark_rows, Marked};
+// The rows of cells, and where each message stands. The pass over a row notes in a table each channel that it meets, and stops at a channel
+// that was met already, or whose message may not stand there.
+ghost use Rattle.std.specs.Prelude.{◌≡◌, ◌≤◌, length};
+ghost use Rattle.network.specs.Layout.{node_room, channel_room, row_length};
+ghost use Rattle.messages.specs.Messages.{mark, cells_in_use, mark_row, mark_rows, Marked};
 
-use network::{ByNode, ROW};
+use crate::may_stand;
+use network::{CHANNELS, Head, ROW, Ring};
 
-// The used cells of a row: each names a channel in use whose message was met nowhere else, and gets the place.
-fn mark_cells(channel_count: u8, place: u8, cells: &[u8], stands: &mut [u8]) -> bool
-    requires { (channel_count ≤ channel_room) × (length stands.old ≡ channel_room) }
-    ensures { Marked result stands.new (mark channel_count place cells.now stands.old) }
+// Where a message stands: in the buffer of a node, or in its line.
+#[derive(Clone, Copy)]
+pub enum Place {
+    Buffer(u8),
+    Line(u8),
+}
+
+// Whether the message of each channel was met.
+pub type Met = [bool; CHANNELS];
+
+// The used cells of a row: each names a channel in use whose message was met nowhere else and may stand here.
+fn mark_cells(head: &Head, place: Place, cells: &[u8], met: &mut Met) -> bool
+    requires { head.now.channel_count ≤ channel_room }
+    ensures { Marked result met.new (mark head.now place cells.now met.old) }
 {
-    let mut i = 0;
-    while i < cells.len() {
-        let cell = cells[i];
-        if cell == 0 {
+    for number in cells {
+        if *number == 0 || head.channel_count < *number {
             return false;
         }
-        if channel_count < cell {
+        let channel = (number - 1) as usize;
+        if met[channel] || !may_stand(head, channel, place) {
             return false;
         }
-        let k = (cell - 1) as usize;
-        if stands[k] != 0 {
-            return false;
-        }
-        stands[k] = place;
-        i += 1;
+        met[channel] = true;
     }
     true
 }
@@ -36,57 +41,55 @@ fn cells_in_use(cells: &[u8]) -> u8
     ensures { result ≡ cells_in_use cells.now }
 {
     let mut used: u8 = 0;
-    let mut i = 0;
-    while i < ROW {
-        if cells[i] != 0 {
+    for cell in cells {
+        if *cell != 0 {
             used += 1;
         }
-        i += 1;
     }
     used
 }
 
 // A row: as many cells are in use as the node says, and the first ones. So the others are zero.
-fn mark_row(channel_count: u8, place: u8, used: u8, cells: &[u8], stands: &mut [u8]) -> bool
-    requires { (channel_count ≤ channel_room) × (length cells.now ≡ row_length) × (length stands.old ≡ channel_room) }
-    ensures { Marked result stands.new (mark_row channel_count place used cells.now stands.old) }
+fn mark_row(head: &Head, place: Place, used: u8, cells: &[u8], met: &mut Met) -> bool
+    requires { (head.now.channel_count ≤ channel_room) × (length cells.now ≡ row_length) }
+    ensures { Marked result met.new (mark_row head.now place used cells.now met.old) }
 {
     if cells_in_use(cells) != used {
         return false;
     }
     let end = used as usize;
-    mark_cells(channel_count, place, &cells[..end], stands)
+    mark_cells(head, place, &cells[..end], met)
 }
 
-// The rows of the nodes in use, either the buffers or the lines. The place of node p's is `first` + p.
-pub fn mark(
-    node_count: u8,
-    channel_count: u8,
-    first: u8,
-    used: &ByNode,
-    cells: &[u8],
-    stands: &mut [u8],
-) -> bool
-    requires { (node_count ≤ node_room) × (channel_count ≤ channel_room) × (first + node_room < 256) × (length cells.now ≡ cell_room)
-        × (length stands.old ≡ channel_room) }
-    ensures { Marked result stands.new
-        (mark_rows node_count channel_count first used.now cells.now stands.old) }
+// The rows of the nodes in use: of each its buffer, then its line. (What the head says of a channel is asked at every cell, so its counts of
+// nodes and channels are asked for here and not again. The head has no invariant that would say it: C lends any bytes.)
+pub fn mark(ring: &Ring, met: &mut Met) -> bool
+    requires { (ring.now.head.node_count ≤ node_room) × (ring.now.head.channel_count ≤ channel_room) }
+    ensures { Marked result met.new (mark_rows ring.now ring.now.head.node_count met.old) }
 {
-    let mut p: u8 = 0;
-    while p < node_count {
+    let head = &ring.head;
+    for p in 0..head.node_count {
         let node = p as usize;
         let from = ROW * node;
         let to = from + ROW;
         if !mark_row(
-            channel_count,
-            first + p,
-            used[node],
-            &cells[from..to],
-            stands,
+            head,
+            Place::Buffer(p),
+            head.used[node],
+            &ring.slots[from..to],
+            met,
         ) {
             return false;
         }
-        p += 1;
+        if !mark_row(
+            head,
+            Place::Line(p),
+            head.waiting[node],
+            &ring.lines[from..to],
+            met,
+        ) {
+            return false;
+        }
     }
     true
 }

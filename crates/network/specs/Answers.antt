@@ -1,13 +1,12 @@
 -- Commands, questions and answers in code, held against document 01: which ring call each command and each question is, and for each case
 -- of the answer its number and its values; from these, what a step that the code returns says, and what a run answers.
-use Rattle.std.specs.Prelude.{ℕ, ◌≡◌, Bool, true, false, cond, List, [], ◌∷◌, eqb}
+use Rattle.std.specs.Prelude.{ℕ, ◌≡◌, Bool, true, false, List, [], ◌∷◌, Result, Ok, Err}
 use Rattle.std.proofs.Math.Option.{Option}
 use Rattle.refusal.specs.declared.Refusal.{Refusal}
-use Rattle.refusal.specs.declared.Refusal.TheVariants.{UnsoundRing}
+use Rattle.refusal.specs.Number as Number
 use Rattle.refusal.specs.Number.{number_of}
 use Rattle.batch.specs.declared.BatchRecord.{BatchRecord}
 use Rattle.batch.specs.declared.sending.Fields.{Fields}
-use Rattle.batch.specs.Blank.{no_record}
 use Rattle.batch.specs.Sending.{record_from}
 use Rattle.command.specs.declared.Action.{Action}
 use Rattle.command.specs.declared.Action.TheVariants.{AddNode, AddChannel, Start, Receive, Send, Enter, Move, Withdraw}
@@ -17,8 +16,7 @@ use Rattle.command.specs.declared.Question.TheVariants.{HopsLeft, WaitingSet}
 use Rattle.numbers.specs.declared.ChannelNo.{ChannelNo}
 use Rattle.network.specs.declared.Ring.{Ring}
 use Rattle.network.specs.declared.Answer.{Answer}
-use Rattle.network.specs.declared.Answer.TheVariants.{Done, Delivered, Hops, Waiting, Refused}
-use Rattle.network.specs.declared.Reply.{Reply}
+use Rattle.network.specs.declared.Answer.TheVariants.{Done, Delivered, Hops, Waiting}
 use Rattle.network.specs.declared.Step.{Step}
 use Rattle.network.specs.Calls.{Event, done, delivered, hops_are, waiting_are, Delivery, delivery_in, Outcome, refused, accepted}
 use Rattle.network.specs.Runs.{Call, add_node, add_channel, start, receive, send, enter, move, withdraw, hops_left, waiting_set, after}
@@ -42,63 +40,56 @@ abbrev pub question_call : Question → Call
 question_call (HopsLeft channel) = hops_left channel
 question_call (WaitingSet node) = waiting_set node
 
--- document 01's number for an answer: that of the refusal, or 0
-abbrev pub number_in : Answer → ℕ
-number_in Done = 0
-number_in (Delivered k) = 0
-number_in (Hops h) = 0
-number_in (Waiting w) = 0
-number_in (Refused r) = number_of r
+-- what a call answers: what an accepted call has to say, or the refusal
+abbrev pub Reply : Type 0
+Reply = Result Answer Refusal
+
+-- document 01's number for a reply: that of the refusal, or 0
+abbrev pub number_in : Reply → ℕ
+number_in r = Number.number_in r
 
 -- the values of an accepted answer; a refusal answers its number alone
-abbrev pub values_in : Answer → BatchRecord → Event
-values_in Done x = done
-values_in (Delivered k) x = delivered k x
-values_in (Hops h) x = hops_are h
-values_in (Waiting w) x = waiting_are w
-values_in (Refused r) x = done
+abbrev pub event_in : Answer → Event
+event_in Done = done
+event_in (Delivered k x) = delivered k x
+event_in (Hops h) = hops_are h
+event_in (Waiting w) = waiting_are w
 
--- whether an answer is a refusal
-abbrev pub is_refusal : Answer → Bool
-is_refusal Done = false
-is_refusal (Delivered k) = false
-is_refusal (Hops h) = false
-is_refusal (Waiting w) = false
-is_refusal (Refused r) = true
+abbrev pub values_in : Reply → Event
+values_in (Ok a) = event_in a
+values_in (Err r) = done
+
+-- whether a reply is a refusal
+abbrev pub is_refusal : Reply → Bool
+is_refusal (Ok a) = false
+is_refusal (Err r) = true
 
 -- the delivery in a reply, if it has one
 abbrev pub delivered_in : Reply → Option Delivery
-delivered_in r = delivery_in (values_in r.answer r.delivered)
+delivered_in r = delivery_in (values_in r)
 
--- the reply to an outcome: the case of the enum whose number and values are those of the outcome
-abbrev pub event_reply : Event → Reply
-event_reply done = record { answer = Done; delivered = no_record }
-event_reply (delivered k x) = record { answer = Delivered k; delivered = x }
-event_reply (hops_are h) = record { answer = Hops h; delivered = no_record }
-event_reply (waiting_are w) = record { answer = Waiting w; delivered = no_record }
+-- the reply to an outcome: the one whose number and values are those of the outcome
+abbrev pub answer_of : Event → Answer
+answer_of done = Done
+answer_of (delivered k x) = Delivered k x
+answer_of (hops_are h) = Hops h
+answer_of (waiting_are w) = Waiting w
 
 abbrev pub reply_of : {S : Type 0} → Outcome S → Reply
-reply_of (refused r) = record { answer = Refused r; delivered = no_record }
-reply_of (accepted e s) = event_reply e
+reply_of (refused r) = Err r
+reply_of (accepted e s) = Ok (answer_of e)
 
 -- the ring after a call, and its reply; a refusal leaves the ring
 abbrev pub step_of : Ring → Outcome Ring → Step
 step_of ring o = record { ring = after ring o; reply = reply_of o }
 
--- the refusal in an answer that is one; nothing asks for it where the number is 0
-abbrev pub refusal_in : Answer → Refusal
-refusal_in Done = UnsoundRing
-refusal_in (Delivered k) = UnsoundRing
-refusal_in (Hops h) = UnsoundRing
-refusal_in (Waiting w) = UnsoundRing
-refusal_in (Refused r) = r
+-- What a returned step says: accepted, with its values and its ring, or refused.
+abbrev pub outcome_in : Reply → Ring → Outcome Ring
+outcome_in (Ok a) ring = accepted (event_in a) ring
+outcome_in (Err r) ring = refused r
 
--- What a returned step says: answered without a refusal number it is accepted, with its values and its ring; else it is refused.
 abbrev pub outcome_of : Step → Outcome Ring
-outcome_of s =
-    cond (eqb (number_in s.reply.answer) 0)
-    (accepted (values_in s.reply.answer s.reply.delivered) s.ring)
-    (refused (refusal_in s.reply.answer))
+outcome_of s = outcome_in s.reply s.ring
 
 -- document 01's number and values for an outcome
 abbrev pub outcome_number : {S : Type 0} → Outcome S → ℕ
@@ -113,14 +104,14 @@ outcome_values (accepted e s) = e
 abbrev pub RepliesSay : Type 1
 RepliesSay =
     (S : Type 0) (o : Outcome S) →
-    (number_in (reply_of o).answer ≡ outcome_number o) × (values_in (reply_of o).answer (reply_of o).delivered ≡ outcome_values o)
+    (number_in (reply_of o) ≡ outcome_number o) × (values_in (reply_of o) ≡ outcome_values o)
 
 -- a step says the number and the values of its reply
 abbrev pub StepsSay : Type 0
 StepsSay =
     (s : Step) →
-    (outcome_number (outcome_of s) ≡ number_in s.reply.answer)
-    × (outcome_values (outcome_of s) ≡ values_in s.reply.answer s.reply.delivered)
+    (outcome_number (outcome_of s) ≡ number_in s.reply)
+    × (outcome_values (outcome_of s) ≡ values_in s.reply)
 
 -- the step that a contract promises says the outcome that it is made of
 abbrev pub StepsKeep : Type 0

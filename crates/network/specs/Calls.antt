@@ -2,11 +2,11 @@
 -- and the ring, and answers the first refusal that applies, or is accepted with an answer and the next ring. That an unsound ring is
 -- refused before all others is said once, where a ring in memory is called (Layout).
 use Rattle.std.specs.Prelude.{ℕ, zero, suc, ◌+◌, ◌*◌, ◌^◌, Bool, true, false, cond, ◌&&◌, ◌||◌, not, List, [], ◌∷◌, ◌++◌, leb, ltb, length}
+use Rattle.std.specs.Prelude.{Ok, Err}
 use Rattle.std.proofs.Math.Option.{Option, none, some}
 use Rattle.refusal.specs.declared.Refusal.{Refusal}
 use Rattle.refusal.specs.declared.Refusal.TheVariants.{AlreadyStarted, NodesFull, BadSlots, ChannelsFull, NoSuchEnd, NothingToStart, TooFewSlots, NotStarted, NoSuchChannel, NotResting, AlreadyOffered, NoSuchNode, LineEmpty, NoFreeSlot, BufferEmpty, NextBufferFull, TurnMarkSet, NotAsking, RequestInBuffer}
-use Rattle.refusal.specs.declared.Verdict.{Verdict}
-use Rattle.refusal.specs.declared.Verdict.TheVariants.{Passed, Refused}
+use Rattle.refusal.specs.Number.{Verdict}
 use Rattle.batch.specs.declared.BatchRecord.{BatchRecord}
 use Rattle.batch.specs.Good.{send_verdict}
 pub use Rattle.batch.specs.Good.{unless}
@@ -126,8 +126,8 @@ offer_to k x σ = cond (is_ready (channel σ k).phase) (respond k x σ) (with_ch
 
 -- a bad record is refused with its own number
 abbrev pub if_good : Verdict → Outcome Network → Outcome Network
-if_good Passed o = o
-if_good (Refused r) o = refused r
+if_good (Ok u) o = o
+if_good (Err r) o = refused r
 
 -- the node in whose buffer channel k stands, if it stands in one of the first n
 unfoldable pub holder : Network → ChannelNo → ℕ → Option NodeNo

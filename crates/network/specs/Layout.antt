@@ -8,17 +8,14 @@ use Rattle.numbers.specs.declared.ChannelNo.{ChannelNo}
 use Rattle.wire.specs.Record.{record_length, record_bytes, record_in}
 use Rattle.network.specs.declared.Ring.{Ring}
 use Rattle.network.specs.declared.Head.{Head}
-use Rattle.network.specs.declared.Answer.{Answer}
-use Rattle.network.specs.declared.Reply.{Reply}
 use Rattle.network.specs.declared.Step.{Step}
-use Rattle.network.specs.declared.HeadStep.{HeadStep}
 use Rattle.network.specs.Counting.{one, tabulate}
 use Rattle.network.specs.Network.{Network, NodeState, ChannelState, Phase, resting, asking, ready, answering, ring_of, node_no, channel_no, node, channel}
 use Rattle.network.specs.Sound.{Limits}
 use Rattle.network.specs.Sound
 use Rattle.network.specs.Calls.{Outcome, refused, accepted, unless}
 use Rattle.network.specs.Runs.{Call, call}
-use Rattle.network.specs.Answers.{step_of, reply_of}
+use Rattle.network.specs.Answers.{Reply, step_of, reply_of}
 
 -- the limits of this ring
 abbrev pub ring_limits : Limits
@@ -246,7 +243,7 @@ held_outcome (accepted e σ) = accepted e (hold σ)
 unfoldable pub call_ring : Call → Ring → Outcome Ring
 call_ring a ring = unless (sound_ring ring) (refused UnsoundRing) (held_outcome (call ring_limits a (view ring)))
 
--- the ring as a call leaves it, and the reply; each by itself; and the answer to a question, which leaves the ring
+-- the ring as a call leaves it, and the reply; each by itself; and the reply to a question, which leaves the ring
 abbrev pub step_ring : Call → Ring → Step
 step_ring a ring = step_of ring (call_ring a ring)
 
@@ -256,8 +253,8 @@ ring_after a ring = (step_ring a ring).ring
 abbrev pub reply_to : Call → Ring → Reply
 reply_to a ring = (step_ring a ring).reply
 
-abbrev pub answer_to : Call → Ring → Answer
-answer_to a ring = (reply_of (call_ring a ring)).answer
+abbrev pub answer_to : Call → Ring → Reply
+answer_to a ring = reply_of (call_ring a ring)
 
 -- the head with these numbers, in the order of its fields
 abbrev pub head_of : ℕ → ℕ → ℕ → ℕ → ℕ → List ℕ → List ℕ → List ℕ → List ℕ → List ℕ → List ℕ → List ℕ → List ℕ → Head
@@ -294,10 +291,7 @@ with_deliveries h deliveries =
     head_of deliveries h.started h.node_count h.channel_count h.spare h.capacity h.used h.waiting h.marks
     h.senders h.receivers h.phases h.offered
 
--- the ring, and the ring with its answer, of a head and of the cells and records that lie apart from it
+-- the ring of a head and of the cells and records that lie beside it
 abbrev pub ring_in : Head → List ℕ → List ℕ → List ℕ → List ℕ → Ring
 ring_in head slots lines offers carried =
     record { head = head; slots = slots; lines = lines; offers = offers; carried = carried }
-
-abbrev pub step_in : HeadStep → List ℕ → List ℕ → List ℕ → List ℕ → Step
-step_in s slots lines offers carried = record { ring = ring_in s.head slots lines offers carried; reply = s.reply }

@@ -1,7 +1,7 @@
 -- What is promised of code that answers each ring call with a step, the ring and a reply. Everything is said of what the code returns, by
 -- document 01's number and values: demand 1 and demand 3, if the code meets the contracts of the ring calls, which are demand 2.
-use Rattle.std.specs.Prelude.{◌≡◌, ◌≢◌}
-use Rattle.batch.specs.Blank.{no_record}
+use Rattle.std.specs.Prelude.{◌≡◌, ◌≢◌, Err}
+use Rattle.refusal.specs.declared.Refusal.{Refusal}
 use Rattle.network.specs.declared.Ring.{Ring}
 use Rattle.network.specs.declared.Step.{Step}
 use Rattle.network.specs.Calls.{Outcome}
@@ -12,7 +12,7 @@ use Rattle.network.specs.Demand.{RefusesUnsound, Safe, Demand3}
 
 module _ (code : Call → Ring → Step) where
   -- Demand 2: for every call and every ring, the answer and the next ring of the definitions. This is the contract of each of the eight
-  -- calls that can change a ring; of a question it is the answer, beside the ring that was asked and a blank record. (The operands in code
+  -- calls that can change a ring; of a question it is the answer, beside the ring that was asked. (The operands in code
   -- are bytes, which are among the numbers here.)
   abbrev pub MeetsContracts : Type 0
   MeetsContracts = (a : Call) (ring : Ring) → code a ring ≡ step_of ring (call_ring a ring)
@@ -22,13 +22,13 @@ module _ (code : Call → Ring → Step) where
   returned a ring = outcome_of (code a ring)
 
   -- A refusal answers its number alone and changes nothing: where the number is not 0, the ring that is returned is the ring that was
-  -- given, and the record beside the answer is blank.
+  -- given, and the reply is the refusal.
   pub record ChangesNothing (a : Call) (ring : Ring) : Type 0 where
     pub ring-as-before : (code a ring).ring ≡ ring
-    pub record-blank : (code a ring).reply.delivered ≡ no_record
+    pub refusal-alone : (r : Refusal) × ((code a ring).reply ≡ Err r)
 
   abbrev pub RefusalLeaves : Type 0
-  RefusalLeaves = (a : Call) (ring : Ring) → number_in (code a ring).reply.answer ≢ 0 → ChangesNothing a ring
+  RefusalLeaves = (a : Call) (ring : Ring) → number_in (code a ring).reply ≢ 0 → ChangesNothing a ring
 
   -- So in a run each call gets the ring that the code returned for the one before, accepted or refused.
   abbrev pub NextRing : Type 0

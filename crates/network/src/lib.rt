@@ -2,8 +2,7 @@
 // contract cites stand in specs/, and the theorems about them in proofs/.
 //
 // Every field of the ring is an integer or an array of bytes, and every byte of a ring is part of a field. So every pattern of bytes that
-// is lent as a ring is a value, which the test for a sound ring judges; and a ring can be lent to C, compared and stored as memory. What
-// is large is an array of bytes, which a call is lent where it lies; what is small, the head, goes by value.
+// is lent as a ring is a value, which the test for a sound ring judges; and a ring can be lent to C, compared and stored as memory.
 #![tactic(auto)]
 
 ghost use Rattle.std.specs.Prelude.{◌≡◌};
@@ -82,7 +81,7 @@ impl Ring {
 
     pub const MOST_SLOTS: u8 = 64;
 
-    // The phases of a channel. Nothing is under way.
+    // The phases of a channel, numbers and no enum: the ring is lent by C, and whatever byte stands there is a value. Nothing is under way.
     pub const RESTING: u8 = 0;
     // Its request is on the ring.
     pub const ASKING: u8 = 1;
@@ -125,67 +124,46 @@ impl Ring {
 pub fn one_more(count: u32) -> u32
     ensures { result ≡ next_count count }
 {
-    if count == 4294967295 {
-        return count;
-    }
-    count + 1
+    count.saturating_add(1)
 }
 
-// What a call answers: the refusal, or what an accepted call has to say.
+// What an accepted call has to say.
 #[derive(Clone, Copy)]
 pub enum Answer {
     Done,
-    // A move that delivered: the channel. The record stands beside the answer.
-    Delivered(ChannelNo),
+    // A move that delivered: the channel, and the record.
+    Delivered(ChannelNo, BatchRecord),
     // Hops left.
     Hops(u8),
     // A waiting set, channel 0 being the lowest bit.
     Waiting(u64),
-    Refused(Refusal),
 }
 
-// An answer with the record delivered, which is blank where there is none.
-#[derive(Clone, Copy)]
-pub struct Reply {
-    pub answer: Answer,
-    pub delivered: BatchRecord,
-}
+// What a call answers: what an accepted call has to say, or the refusal.
+pub type Reply = Result<Answer, Refusal>;
 
-// The ring after a call, and its answer.
+// The ring after a call by value, and its reply. (`Step` and `DispatchStep` are two types, since the promises name their fields:
+// specs/Promise, specs/Dispatcher.)
 #[derive(Clone, Copy)]
 pub struct Step {
     pub ring: Ring,
     pub reply: Reply,
 }
 
-// The same after a call that was lent the cells and the records, which it has changed where they lie.
-#[derive(Clone, Copy)]
-pub struct HeadStep {
-    pub head: Head,
-    pub reply: Reply,
-}
-
-// What the dispatcher answers: `Done` or the refusal, how many rounds it made, and its deliveries in order. There are `count` of them, at
-// most one for each channel: the first was on the first of the channels with the first of the records, and zeros stand behind the last.
+// What the dispatcher did: how many rounds it made, and its deliveries in order. There are `count` of them, at most one for each channel:
+// the first was on the first of the channels with the first of the records, and zeros stand behind the last. (The two arrays stand side
+// by side as in `answered` of specs/Dispatcher, and as C's struct of it has them.)
 #[derive(Clone, Copy)]
 pub struct Dispatched {
-    pub answer: Answer,
     pub rounds: u16,
     pub count: u8,
     pub channels: ByChannel,
     pub records: [BatchRecord; CHANNELS],
 }
 
-// The ring after a call of the dispatcher, and what it answers.
+// The ring after a call of the dispatcher by value, and what it did, or the refusal.
 #[derive(Clone, Copy)]
 pub struct DispatchStep {
     pub ring: Ring,
-    pub dispatched: Dispatched,
-}
-
-// The same after a call that was lent the cells and the records.
-#[derive(Clone, Copy)]
-pub struct HeadDispatched {
-    pub head: Head,
-    pub dispatched: Dispatched,
+    pub dispatched: Result<Dispatched, Refusal>,
 }

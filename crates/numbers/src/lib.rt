@@ -4,9 +4,9 @@
 #![tactic(auto)]
 
 // A node of the ring.
-#[derive(Clone, Copy)]
+#[derive(Clone, Copy, PartialEq, Eq)]
 pub struct NodeNo(pub u8);
 
 // A channel of the ring. A message is known by its channel.
-#[derive(Clone, Copy)]
+#[derive(Clone, Copy, PartialEq, Eq)]
 pub struct ChannelNo(pub u8);

@@ -1,11 +1,16 @@
 -- The three calls that build a ring, on a sound ring in memory that has not started: each refusal by the tests that the code makes, and what an accepted
 -- call leaves in memory.
 use Prim.Native.Nat.{ℕ, ◌+◌, ◌≤◌, ◌<◌}
-use mathlib.Core.Path.{◌≡◌, sym, ap, ◌∙◌}
+use mathlib.Core.Path.{◌≡◌, refl, sym, ap, ◌∙◌}
 use mathlib.Core.Bool.{true, false, ◌&&◌, not}
 use lib.Dec.{leb, ltb}
 use lib.ListN.{get_or, set}
 use borrow.Author.Tests.{lt-ltb, le-ltb, le-leb, lt-leb}
+use Rattle.std.proofs.Common.{arith, Some, Less, Equal, Greater}
+use Rattle.std.specs.Ordering.{is_le, nat_cmp}
+use Rattle.std.specs.Cmp.{nat_cmp_is}
+use Rattle.std.specs.Range.{range_inclusive_start, range_inclusive_end, range_inclusive_exhausted, range_inclusive_contains}
+use Rattle.std.specs.declared.ops.RangeInclusive.{RangeInclusive}
 use Rattle.refusal.specs.declared.Refusal.TheVariants.{NodesFull, BadSlots, ChannelsFull, NoSuchEnd, NothingToStart, TooFewSlots}
 use Rattle.numbers.specs.declared.NodeNo.{NodeNo}
 use Rattle.network.specs.declared.Ring.{Ring}
@@ -15,11 +20,26 @@ use Rattle.network.specs.Calls.{done, refused, accepted}
 use Rattle.network.specs.Calls
 use Rattle.network.specs.Runs
 use Rattle.network.specs.Layout.{ring_limits, node_room, view, call_ring}
+use Rattle.network.proofs.Ground.Splits.{by-same, by_less}
 use Rattle.network.proofs.Ground.Counting.{sum_same, sum-beyond}
 use Rattle.network.proofs.Memory.Held.{SoundRing, sound-ring, no-node}
 use Rattle.network.proofs.Memory.Changes.{planned, with_head, hold-with-new-node, hold-with-new-channel, hold-with-started}
 use Rattle.updates.specs.Known.{Planned}
 use Rattle.updates.proofs.Openings.{sound-called, idle}
+
+-- what a comparison of numbers says of the test, and the test for a number of slots
+le-test : (a b : ℕ) → is_le (nat_cmp a b) ≡ leb a b
+le-test a b =
+    by_less a b
+    (λ less. rw (← nat_cmp_is a b Less less, le-leb a b (omega arith)) refl)
+    (λ more.
+    by-same a b
+    (λ same. rw (← nat_cmp_is a b Equal same, le-leb a b (omega arith)) refl)
+    (λ other. rw (← nat_cmp_is a b Greater (omega (arith, other)), lt-leb a b (omega (arith, other))) refl))
+
+pub slots-test : (slots : ℕ) (r : RangeInclusive ℕ) → range_inclusive_start r ≡ 1 → range_inclusive_end r ≡ ring_limits.slots →
+    range_inclusive_exhausted r ≡ false → (leb 1 slots && leb slots ring_limits.slots) ≡ range_inclusive_contains (λ a b. Some (nat_cmp a b)) r slots
+slots-test slots r first last whole = rw (first, last, whole, le-test 1 slots, le-test slots ring_limits.slots) refl
 
 module _ {ring : Ring} (h : Planned ring) where
   known : SoundRing ring
@@ -42,17 +62,11 @@ module _ {ring : Ring} (h : Planned ring) where
     add-node-full full = rw (sound-called (Runs.add_node slots) ring h.ok, waits, node-count, le-ltb _ _ full)
 
     module _ (room : ring.head.node_count < ring_limits.nodes) where
-      bad-slots : (leb 1 slots && leb slots ring_limits.slots) ≡ false → call_ring (Runs.add_node slots) ring ≡ refused BadSlots
+      pub add-node-bad : (leb 1 slots && leb slots ring_limits.slots) ≡ false → call_ring (Runs.add_node slots) ring ≡ refused BadSlots
       unfolding Calls.add_node
-      bad-slots bad = rw (sound-called (Runs.add_node slots) ring h.ok, waits, node-count, lt-ltb _ _ room, bad)
+      add-node-bad bad = rw (sound-called (Runs.add_node slots) ring h.ok, waits, node-count, lt-ltb _ _ room, bad)
 
-      pub add-node-none : slots < 1 → call_ring (Runs.add_node slots) ring ≡ refused BadSlots
-      add-node-none few = bad-slots (rw (lt-leb 1 slots few))
-
-      pub add-node-many : 1 ≤ slots → ring_limits.slots < slots → call_ring (Runs.add_node slots) ring ≡ refused BadSlots
-      add-node-many some many = bad-slots (rw (le-leb 1 slots some, lt-leb slots ring_limits.slots many))
-
-      pub add-node-done : 1 ≤ slots → slots ≤ ring_limits.slots →
+      pub add-node-done : (leb 1 slots && leb slots ring_limits.slots) ≡ true →
           call_ring (Runs.add_node slots) ring
           ≡ accepted done
           (with_head ring
@@ -61,9 +75,9 @@ module _ {ring : Ring} (h : Planned ring) where
           ring.head.senders
           ring.head.receivers))
       unfolding Calls.add_node
-      add-node-done some few =
+      add-node-done good =
           let free : count_of_nodes (view ring) < ring_limits.nodes = rw node-count room in
-          rw (sound-called (Runs.add_node slots) ring h.ok, waits, lt-ltb _ _ free, le-leb 1 slots some, le-leb slots ring_limits.slots few)
+          rw (sound-called (Runs.add_node slots) ring h.ok, waits, lt-ltb _ _ free, good)
           (ap (accepted done)
           (hold-with-new-node (view ring) slots free
           ∙ (λ i.

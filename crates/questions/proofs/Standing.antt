@@ -2,17 +2,19 @@
 -- numbers of the buffer, each one higher.
 use Prim.Native.Nat.{ℕ, zero, suc, ◌+◌, ◌*◌, ◌≤◌, ◌<◌}
 use mathlib.Core.Path.{◌≡◌, refl, sym, ap, ◌∙◌}
-use mathlib.Core.Logic.{◌≢◌}
-use mathlib.Core.Bool.{Bool, true, false, ◌||◌, or-true}
+use mathlib.Core.Bool.{Bool, true, false, cond, ◌||◌}
 use mathlib.Core.List.{List, [], ◌∷◌}
 use mathlib.Core.Option.{Option, none, some}
 use native.Mathlib.Nat.{add-zero}
 use native.Mathlib.Numerals.{add-one}
 use native.Mathlib.Omega.{arith}
 use lib.Dec.{eqb, ltb}
-use lib.ListN.{length, get_or, take}
+use lib.ListN.{length, get_or, take, drop}
 use lib.Seq.{take-suc, take_all}
 use borrow.Author.Tests.{lt-ltb, eq-eqb, ne_eqb}
+use Rattle.std.specs.List.{list_any}
+use Rattle.std.proofs.lemmas.List.{get_or-drop, length-drop}
+use Rattle.std.proofs.lemmas.List.Folds.{list_any-append}
 use Rattle.batch.specs.declared.BatchRecord.{BatchRecord}
 use Rattle.numbers.specs.declared.NodeNo.{NodeNo}
 use Rattle.numbers.specs.declared.ChannelNo.{ChannelNo}
@@ -32,7 +34,7 @@ use Rattle.network.proofs.Ground.Counting.{weigh-snoc}
 use Rattle.network.proofs.Memory.Rows.{get_d-padded, get_d-row}
 use Rattle.network.proofs.Memory.Held.{SoundRing, sound-ring, HeldNode}
 use Rattle.updates.specs.Flat.{used_at}
-use Rattle.updates.specs.Known.{AtChannel, FirstAt}
+use Rattle.updates.specs.Known.{AtChannel}
 use Rattle.updates.proofs.Openings.{sound-called}
 use Rattle.updates.proofs.Reading.{channel-known, channel-there, channel-numbers, channel-running}
 use Rattle.questions.specs.Asked.{Within, stands_in, place_in, way_in, hops_in}
@@ -49,43 +51,34 @@ sound-within ring ok =
           omega (arith, (s.holds.nodes p (omega (arith, s.fits.nodes-fit))).used, s.fits.buffer-fits p there);
     }
 
--- a cell that was found, or was not, among the first n
+-- the first cells of a row, one more of them in a turn
 
-module _ (cells : List ℕ) (base cell : ℕ) where
-  some-stands : (n i : ℕ) → i < n → get_or cells (base + i) 0 ≡ cell → stands_in cells base cell n ≡ true
-  unfolding stands_in
-  some-stands zero i l here = absurd (omega arith)
-  some-stands (suc n) i l here =
-      by-same i n (λ e. rw (← e, eq-eqb _ _ here))
-      (λ d. rw (some-stands n i (omega arith) here) (or-true (eqb (get_or cells (base + n) 0) cell)))
+swapped : (a b : Bool) → (a || (b || false)) ≡ (b || a)
+swapped true true = refl
+swapped true false = refl
+swapped false true = refl
+swapped false false = refl
 
-  none-stands : (n : ℕ) → ((j : ℕ) → j < n → get_or cells (base + j) 0 ≢ cell) → stands_in cells base cell n ≡ false
-  unfolding stands_in
-  none-stands zero other = refl
-  none-stands (suc n) other = rw (ne_eqb _ _ (other n (omega arith)), none-stands n (λ j l. other j (omega arith)))
+pub stands-listed : (cells : List ℕ) (base cell n : ℕ) → base + n ≤ length cells →
+    list_any (λ y. eqb y cell) (take n (drop base cells)) ≡ stands_in cells base cell n
+unfolding stands_in
+stands-listed cells base cell zero l = refl
+stands-listed cells base cell (suc n) l =
+    rw (
+      take-suc (drop base cells) n 0 (rw length-drop (omega arith)),
+      get_or-drop base cells n 0,
+      list_any-append (λ y. eqb y cell) (take n (drop base cells)) (get_or cells (base + n) 0 ∷ []),
+      stands-listed cells base cell n (omega arith),
+    )
+    (swapped (stands_in cells base cell n) (eqb (get_or cells (base + n) 0) cell))
 
-  module _ {used i : ℕ} (found : FirstAt cells base used cell i) where
-    pub stands-there : i < used → stands_in cells base cell used ≡ true
-    stands-there inside = some-stands used i inside (found.there inside)
+-- a turn of the search over the nodes
 
-    pub stands-nowhere : used ≤ i → stands_in cells base cell used ≡ false
-    stands-nowhere past = none-stands used (λ j l. found.not-before j (omega arith))
-
--- the search over the nodes, turn by turn
-
-module _ (h : Head) (slots : List ℕ) (cell entry : ℕ) where
-  pub place-nowhere : place_in h slots cell entry 0 ≡ entry
-  unfolding place_in
-  place-nowhere = refl
-
-  pub place_here : (q p : ℕ) → q ≡ suc p → stands_in slots (row_length * p) cell (used_at h p) ≡ true → place_in h slots cell entry q ≡ p
-  unfolding place_in
-  place_here q p e t = rw (e, t)
-
-  pub place-before : (q p : ℕ) → q ≡ suc p → stands_in slots (row_length * p) cell (used_at h p) ≡ false →
-      place_in h slots cell entry q ≡ place_in h slots cell entry p
-  unfolding place_in
-  place-before q p e t = rw (e, t)
+pub place_turn : (h : Head) (slots : List ℕ) (cell entry q p : ℕ) → q ≡ suc p → {here : Bool} →
+    here ≡ stands_in slots (row_length * p) cell (used_at h p) →
+    place_in h slots cell entry q ≡ cond here p (place_in h slots cell entry p)
+unfolding place_in
+place_turn h slots cell entry q p e f = rw (e, f)
 
 -- cells that hold the numbers of xs, each one higher, hold k + 1 where xs holds k
 

@@ -1,21 +1,18 @@
 -- How many tasks of a node wait, document 01, "Refusal by operation": counted on the ring, as the ones of the waiting set, and as the code
 -- answers it.
-use Rattle.std.specs.Prelude.{ℕ, ◌≡◌, ltb}
+use Rattle.std.specs.Prelude.{ℕ, ◌≡◌, ltb, Result, Ok, Err}
 use Rattle.std.specs.Int.Count.{ones}
+use Rattle.refusal.specs.declared.Refusal.{Refusal}
 use Rattle.refusal.specs.Number.{number_of}
 use Rattle.numbers.specs.declared.NodeNo.{NodeNo}
-use Rattle.network.specs.declared.Answer.{Answer}
-use Rattle.network.specs.declared.Answer.TheVariants.{Done, Delivered, Hops}
-use Rattle.network.specs.declared.Answer.TheVariants as answer
+use Rattle.network.specs.declared.Answer.TheVariants.{Done, Delivered, Hops, Waiting}
 use Rattle.network.specs.declared.Ring.{Ring}
 use Rattle.network.specs.Counting.{one, sum}
 use Rattle.network.specs.Network.{Network, channel_no, count_of_nodes, count_of_channels, channel}
 use Rattle.network.specs.Calls.{unless, waits, waiting_of}
 use Rattle.network.specs.Runs
-use Rattle.network.specs.Answers.{reply_of}
-use Rattle.network.specs.Layout.{view, sound_ring, call_ring}
-use Rattle.questions.specs.declared.Tasks.{Tasks}
-use Rattle.questions.specs.declared.Tasks.TheVariants.{Waiting, Refused}
+use Rattle.network.specs.Answers.{Reply}
+use Rattle.network.specs.Layout.{view, sound_ring, answer_to}
 
 -- how many tasks of node p wait: the channels of the ring on which one waits, counted one by one
 abbrev pub tasks_of : Network → NodeNo → ℕ
@@ -26,15 +23,15 @@ abbrev pub OnesAreTasks : Type 0
 OnesAreTasks = (σ : Network) (p : NodeNo) → ones (waiting_of σ p) ≡ tasks_of σ p
 
 -- the answer in code: what the waiting set is answered with, its ones counted; it is answered with a set or a refusal and nothing else
-abbrev pub tasks_in : Answer → Tasks
-tasks_in Done = Waiting 0
-tasks_in (Delivered k) = Waiting 0
-tasks_in (Hops h) = Waiting 0
-tasks_in (answer.Waiting set) = Waiting (ones set)
-tasks_in (answer.Refused r) = Refused r
+abbrev pub tasks_in : Reply → Result ℕ Refusal
+tasks_in (Ok Done) = Ok 0
+tasks_in (Ok (Delivered k x)) = Ok 0
+tasks_in (Ok (Hops h)) = Ok 0
+tasks_in (Ok (Waiting set)) = Ok (ones set)
+tasks_in (Err r) = Err r
 
-abbrev pub tasks_to : NodeNo → Ring → Tasks
-tasks_to node ring = tasks_in (reply_of (call_ring (Runs.waiting_set node) ring)).answer
+abbrev pub tasks_to : NodeNo → Ring → Result ℕ Refusal
+tasks_to node ring = tasks_in (answer_to (Runs.waiting_set node) ring)
 
 -- document 01's number and value for each case of the answer; a refusal answers its number alone
 pub record CountSaid : Type 0 where
@@ -44,9 +41,9 @@ pub record CountSaid : Type 0 where
 abbrev pub says : ℕ → ℕ → CountSaid
 says number tasks = record { number = number; tasks = tasks }
 
-abbrev pub said_in : Tasks → CountSaid
-said_in (Waiting tasks) = says 0 tasks
-said_in (Refused r) = says (number_of r) 0
+abbrev pub said_in : Result ℕ Refusal → CountSaid
+said_in (Ok tasks) = says 0 tasks
+said_in (Err r) = says (number_of r) 0
 
 -- what document 01 has answered to the question: 25 on an unsound ring, 16 where there is no such node, or how many tasks wait
 abbrev pub tasks_said : NodeNo → Ring → CountSaid

@@ -1,6 +1,6 @@
 -- The number of each refusal and of a verdict, as document 01 has it, and what the list promises: no two refusals share a number, and the
 -- numbers are 1 to 30, so that 0 says that there was no refusal.
-use Rattle.std.specs.Prelude.{◌≡◌, ℕ, ◌≤◌}
+use Rattle.std.specs.Prelude.{◌≡◌, ℕ, ◌≤◌, Result, Ok, Err}
 use Rattle.refusal.specs.declared.Refusal.{Refusal}
 use Rattle.refusal.specs.declared.Refusal.TheVariants.{AlreadyStarted, NodesFull, BadSlots, ChannelsFull, NoSuchEnd}
 use Rattle.refusal.specs.declared.Refusal.TheVariants.{NothingToStart, TooFewSlots, NotStarted, NoSuchChannel, NotResting}
@@ -8,8 +8,6 @@ use Rattle.refusal.specs.declared.Refusal.TheVariants.{BatchNumberZero, Temperat
 use Rattle.refusal.specs.declared.Refusal.TheVariants.{AlreadyOffered, NoSuchNode, LineEmpty, NoFreeSlot, BufferEmpty, NextBufferFull}
 use Rattle.refusal.specs.declared.Refusal.TheVariants.{TurnMarkSet, UnknownCommand, CommandCut, PlaceBeyondEnd, UnsoundRing, NoRoomToWrite}
 use Rattle.refusal.specs.declared.Refusal.TheVariants.{NotAsking, RequestInBuffer, NoEmptyRow, BlankEnd}
-use Rattle.refusal.specs.declared.Verdict.{Verdict}
-use Rattle.refusal.specs.declared.Verdict.TheVariants.{Passed, Refused}
 
 abbrev pub number_of : Refusal → ℕ
 number_of AlreadyStarted = 1
@@ -44,9 +42,15 @@ number_of NoEmptyRow = 29
 number_of BlankEnd = 30
 
 -- the number of a verdict: that of the refusal, or 0
+abbrev pub Verdict : Type 0
+Verdict = Result Unit Refusal
+
+abbrev pub number_in : {T : Type 0} → Result T Refusal → ℕ
+number_in (Ok x) = 0
+number_in (Err r) = number_of r
+
 abbrev pub verdict_number : Verdict → ℕ
-verdict_number Passed = 0
-verdict_number (Refused r) = number_of r
+verdict_number v = number_in v
 
 -- two refusals never share a number
 abbrev pub OneMeaning : Type 0

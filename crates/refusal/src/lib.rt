@@ -1,130 +1,92 @@
 // The refusals of the vessel ring, one list for every operation: each has a name, a number and one meaning.
 // The number is what a caller and a fitter see (docs/REFUSALS.md); an operation answers the first refusal that applies.
-// A verdict is such an answer where there is nothing more to tell.
 #![tactic(auto)]
 
 ghost use Rattle.std.specs.Prelude.{◌≡◌};
-ghost use Rattle.refusal.specs.Number.{number_of, verdict_number};
+ghost use Rattle.refusal.specs.Number.{number_of, number_in};
 
-#[derive(Clone, Copy)]
+#[derive(Clone, Copy, PartialEq, Eq, Debug)]
 pub enum Refusal {
     // The ring has already started.
-    AlreadyStarted,
+    AlreadyStarted = 1,
     // Sixteen nodes stand already.
-    NodesFull,
+    NodesFull = 2,
     // A node has 1 to 64 slots, and this number is not among them.
-    BadSlots,
+    BadSlots = 3,
     // Sixty-four channels stand already.
-    ChannelsFull,
+    ChannelsFull = 4,
     // The sender or the receiver of the channel is not a node added so far.
-    NoSuchEnd,
+    NoSuchEnd = 5,
     // There is no node, or no channel.
-    NothingToStart,
+    NothingToStart = 6,
     // The slots of all nodes together are not more than the channels.
-    TooFewSlots,
+    TooFewSlots = 7,
     // The ring has not started.
-    NotStarted,
+    NotStarted = 8,
     // There is no channel of this number.
-    NoSuchChannel,
+    NoSuchChannel = 9,
     // The channel is not resting.
-    NotResting,
+    NotResting = 10,
     // The record's batch number is 0.
-    BatchNumberZero,
+    BatchNumberZero = 11,
     // The record's temperature is out of range.
-    TemperatureOutOfRange,
+    TemperatureOutOfRange = 12,
     // The record's name length is over 32.
-    NameTooLong,
+    NameTooLong = 13,
     // A byte of the record's name, or of the fill after it, is wrong.
-    BadName,
+    BadName = 14,
     // A record is already offered on the channel.
-    AlreadyOffered,
+    AlreadyOffered = 15,
     // There is no node of this number.
-    NoSuchNode,
+    NoSuchNode = 16,
     // The node's line is empty.
-    LineEmpty,
+    LineEmpty = 17,
     // The node has no free slot.
-    NoFreeSlot,
+    NoFreeSlot = 18,
     // The node's buffer is empty.
-    BufferEmpty,
+    BufferEmpty = 19,
     // The next node has no free slot for a message that goes on.
-    NextBufferFull,
+    NextBufferFull = 20,
     // The next node's turn mark is set: its own line goes first.
-    TurnMarkSet,
+    TurnMarkSet = 21,
     // The command byte is none of the tape's.
-    UnknownCommand,
+    UnknownCommand = 22,
     // Fewer bytes are left than the command is wide.
-    CommandCut,
+    CommandCut = 23,
     // The place is beyond the length of the bytes.
-    PlaceBeyondEnd,
+    PlaceBeyondEnd = 24,
     // The ring or the history table handed in is not sound.
-    UnsoundRing,
+    UnsoundRing = 25,
     // There are fewer bytes from the place on than the command is wide.
-    NoRoomToWrite,
+    NoRoomToWrite = 26,
     // The channel is not asking.
-    NotAsking,
+    NotAsking = 27,
     // The channel's request is in a buffer.
-    RequestInBuffer,
+    RequestInBuffer = 28,
     // The batch has no row in the history table, and no row is empty.
-    NoEmptyRow,
+    NoEmptyRow = 29,
     // The record's name begins or ends with a blank.
-    BlankEnd,
+    BlankEnd = 30,
 }
 
-// What a test or a call that answers nothing more comes to: it passed, or the first refusal that applies.
-#[derive(Clone, Copy)]
-pub enum Verdict {
-    Passed,
-    Refused(Refusal),
-}
+// What a test, or a call that answers nothing more, comes to: it passed, or the first refusal that applies.
+pub type Verdict = Result<(), Refusal>;
 
 impl Refusal {
     // The number of the refusal, from 1 to 30.
     pub fn number(self) -> u8
         ensures { result ≡ number_of self }
     {
-        match self {
-            Refusal::AlreadyStarted => 1,
-            Refusal::NodesFull => 2,
-            Refusal::BadSlots => 3,
-            Refusal::ChannelsFull => 4,
-            Refusal::NoSuchEnd => 5,
-            Refusal::NothingToStart => 6,
-            Refusal::TooFewSlots => 7,
-            Refusal::NotStarted => 8,
-            Refusal::NoSuchChannel => 9,
-            Refusal::NotResting => 10,
-            Refusal::BatchNumberZero => 11,
-            Refusal::TemperatureOutOfRange => 12,
-            Refusal::NameTooLong => 13,
-            Refusal::BadName => 14,
-            Refusal::AlreadyOffered => 15,
-            Refusal::NoSuchNode => 16,
-            Refusal::LineEmpty => 17,
-            Refusal::NoFreeSlot => 18,
-            Refusal::BufferEmpty => 19,
-            Refusal::NextBufferFull => 20,
-            Refusal::TurnMarkSet => 21,
-            Refusal::UnknownCommand => 22,
-            Refusal::CommandCut => 23,
-            Refusal::PlaceBeyondEnd => 24,
-            Refusal::UnsoundRing => 25,
-            Refusal::NoRoomToWrite => 26,
-            Refusal::NotAsking => 27,
-            Refusal::RequestInBuffer => 28,
-            Refusal::NoEmptyRow => 29,
-            Refusal::BlankEnd => 30,
-        }
+        self as u8
     }
 }
 
-impl Verdict {
-    // The number of the refusal, or 0 where it passed.
-    pub fn number(self) -> u8
-        ensures { result ≡ verdict_number self }
-    {
-        match self {
-            Verdict::Passed => 0,
-            Verdict::Refused(refusal) => refusal.number(),
-        }
+// The number of the refusal in an answer of any kind, or 0 where there is none.
+pub fn number_in<T>(answer: &Result<T, Refusal>) -> u8
+    ensures { result ≡ number_in answer.now }
+{
+    match answer {
+        Ok(_) => 0,
+        Err(refusal) => refusal.number(),
     }
 }

@@ -1,10 +1,9 @@
 -- Lines of the report that document 01 shows, the delivery in hundredths, and one with a temperature below 0 and no name. Each row has the
 -- bytes that a line is to be, and the line as it is defined.
-use Rattle.std.specs.Prelude.{ℕ, ◌≡◌, List, [], ◌∷◌, ◌++◌, map, pos, neg_ℤ, replicate}
+use Rattle.std.specs.Prelude.{ℕ, ◌≡◌, List, [], ◌∷◌, ◌++◌, map, pos, neg_ℤ, replicate, Ok, Err}
 use Rattle.refusal.specs.declared.Refusal.TheVariants.{BufferEmpty}
 use Rattle.batch.specs.Good.{record_of}
-use Rattle.batch.specs.Blank.{no_record}
-use Rattle.network.specs.declared.Answer.TheVariants.{Delivered, Refused}
+use Rattle.network.specs.declared.Answer.TheVariants.{Delivered}
 use Rattle.report.specs.Line.{line_of, end_of}
 
 pub record LineRow : Type 0 where
@@ -22,13 +21,13 @@ delivery_row =
     ++ (0x20 ∷ 0x64 ∷ 0x65 ∷ 0x6C ∷ 0x69 ∷ 0x76 ∷ 0x65 ∷ 0x72 ∷ 0x65 ∷ 0x64 ∷ [])
     ++ (0x20 ∷ 0x30 ∷ 0x20 ∷ 0x37 ∷ 0x20 ∷ 0x33 ∷ 0x20 ∷ 0x36 ∷ 0x31 ∷ 0x32 ∷ 0x30 ∷ 0x20 ∷ 0x32 ∷ 0x20 ∷ 0x41 ∷ 0x31 ∷ 0x0A ∷ []))
     (line_of 11 0x23
-    (record { answer = Delivered (record { 0 = 0 }); delivered = record_of 7 3 (pos 6120) 2 (0x41 ∷ 0x31 ∷ replicate 30 0) }))
+    (Ok (Delivered (record { 0 = 0 }) (record_of 7 3 (pos 6120) 2 (0x41 ∷ 0x31 ∷ replicate 30 0)))))
 
 -- `12 23 19`
 abbrev refusal_row : LineRow
 refusal_row =
     row (0x31 ∷ 0x32 ∷ 0x20 ∷ 0x32 ∷ 0x33 ∷ 0x20 ∷ 0x31 ∷ 0x39 ∷ 0x0A ∷ [])
-    (line_of 12 0x23 (record { answer = Refused BufferEmpty; delivered = no_record }))
+    (line_of 12 0x23 (Err BufferEmpty))
 
 -- `end 10 2`
 abbrev end_row : LineRow
@@ -42,7 +41,7 @@ cold_row =
     ++ (0x20 ∷ 0x64 ∷ 0x65 ∷ 0x6C ∷ 0x69 ∷ 0x76 ∷ 0x65 ∷ 0x72 ∷ 0x65 ∷ 0x64 ∷ [])
     ++ (0x20 ∷ 0x36 ∷ 0x33 ∷ 0x20 ∷ 0x31 ∷ 0x20 ∷ 0x32 ∷ 0x35 ∷ 0x35 ∷ 0x20 ∷ 0x2D ∷ 0x34 ∷ 0x30 ∷ 0x30 ∷ 0x30 ∷ 0x20 ∷ 0x30 ∷ 0x0A ∷ []))
     (line_of 5 0xAF
-    (record { answer = Delivered (record { 0 = 63 }); delivered = record_of 1 255 (neg_ℤ (pos 4000)) 0 (replicate 32 0) }))
+    (Ok (Delivered (record { 0 = 63 }) (record_of 1 255 (neg_ℤ (pos 4000)) 0 (replicate 32 0)))))
 
 -- every row's line has the row's bytes
 abbrev rows : List LineRow

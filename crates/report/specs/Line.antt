@@ -3,9 +3,8 @@ use Rattle.std.specs.Prelude.{ℕ, List, [], ◌∷◌, ◌++◌, take}
 use Rattle.std.proofs.Math.Option.{Option, none, some}
 use Rattle.batch.specs.declared.BatchRecord.{BatchRecord}
 use Rattle.numbers.specs.declared.ChannelNo.{ChannelNo}
-use Rattle.network.specs.declared.Reply.{Reply}
 use Rattle.network.specs.Calls.{Delivery}
-use Rattle.network.specs.Answers.{number_in, delivered_in}
+use Rattle.network.specs.Answers.{Reply, number_in, delivered_in}
 use Rattle.text.specs.Digits.{decimal, hex2, signed}
 use Rattle.text.specs.Fields.{space, field, name_field}
 
@@ -49,7 +48,7 @@ unfoldable pub line_of : ℕ → ℕ → Reply → List ℕ
 line_of number command reply =
     decimal number
     ++ (space ∷ hex2 command)
-    ++ field (number_in reply.answer)
+    ++ field (number_in reply)
     ++ delivery_bytes (delivered_in reply)
     ++ newline ∷ []
 

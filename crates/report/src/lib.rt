@@ -1,9 +1,9 @@
 // The report of the tape program: each of its lines as bytes put into a lent buffer, the whole line where it fits and nothing
-// where it does not. A line is built in a text of its own first, so a refusal leaves the buffer as it was.
+// where it does not. A line is built by itself first, so a refusal leaves the buffer as it was.
 #![tactic(auto)]
 
 ghost use Rattle.std.specs.Prelude.{◌++◌, ◌≡◌, ◌+◌, ◌≤◌, length};
-ghost use Rattle.network.specs.Answers.{number_in, delivered_in};
+ghost use Rattle.network.specs.Answers.{delivered_in};
 ghost use Rattle.text.specs.Appends.{Appends};
 ghost use Rattle.report.specs.Line.{line_room, delivered_bytes, record_fields, delivery_bytes, line_of, end_of, too_long};
 ghost use Rattle.report.specs.Put.{put_answer, put};
@@ -11,124 +11,117 @@ ghost use Rattle.report.specs.Put.{put_answer, put};
 use batch::BatchRecord;
 use network::{Answer, Reply};
 use numbers::ChannelNo;
-use text;
 
 // Room for any line.
 pub const LINE_ROOM: usize = 160;
 
-const NEWLINE: u8 = 0x0A;
+type Line = text::Line<LINE_ROOM>;
 
-// The place after the line that was written, or that the buffer has no room for it there.
-#[derive(Clone, Copy)]
-pub enum Put {
-    Written { next: usize },
-    NoRoom,
-}
-
-// The refusal's number, or 0.
-fn refusal_in(answer: Answer) -> u8
-    ensures { result ≡ number_in answer }
+// What a delivery has after the refusal's number: the word of 10 bytes, a byte's number and its space 4, the batch number's 11, the
+// temperature's 7, a name 33.
+fn push_record(line: &mut Line, channel: ChannelNo, delivered: BatchRecord)
+    requires { length line.old + 73 ≤ line_room }
+    ensures { Appends line.old line.new (delivered_bytes ++ record_fields channel delivered) 73 }
 {
-    match answer {
-        Answer::Refused(refusal) => refusal.number(),
-        _ => 0,
-    }
-}
-
-// What a delivery has after the refusal's number. The word takes 10 bytes, a number and its space 11, a signed one 12, a name 33.
-fn push_record(text: &mut [u8], at: usize, channel: ChannelNo, delivered: BatchRecord) -> usize
-    requires { at + 99 ≤ length text.old }
-    ensures { Appends text.old text.new at result (delivered_bytes ++ record_fields channel delivered) 99 }
-{
-    let channel_number = channel.0;
-    let batch_number = delivered.batch.0;
-    let temperature = delivered.temperature;
-    let name_length = delivered.name_length;
-    let cells = delivered.name;
-    let word_end = text::push_all(text, at, b" delivered");
-    let channel_end = text::push_field(text, word_end, channel_number as u32);
-    let batch_end = text::push_field(text, channel_end, batch_number);
-    let vessel_end = text::push_field(text, batch_end, delivered.vessel as u32);
-    let temperature_end = text::push_signed(text, vessel_end, temperature);
-    let length_end = text::push_field(text, temperature_end, name_length as u32);
-    text::push_name(text, length_end, name_length, cells)
+    line.push_all(b" delivered");
+    line.push_field(channel.0);
+    line.push_field(delivered.batch.0);
+    line.push_field(delivered.vessel);
+    line.push_field(delivered.temperature);
+    line.push_field(delivered.name_length);
+    line.push_name(delivered.name_length, &delivered.name);
 }
 
 // The delivery in a reply, or nothing where it has none.
-fn push_delivery(text: &mut [u8], at: usize, reply: Reply) -> usize
-    requires { at + 99 ≤ length text.old }
-    ensures { Appends text.old text.new at result (delivery_bytes (delivered_in reply)) 99 }
+fn push_delivery(line: &mut Line, reply: Reply)
+    requires { length line.old + 73 ≤ line_room }
+    ensures { Appends line.old line.new (delivery_bytes (delivered_in reply)) 73 }
 {
-    let answer = reply.answer;
-    let delivered = reply.delivered;
-    match answer {
-        Answer::Delivered(channel) => push_record(text, at, channel, delivered),
-        _ => at,
+    if let Ok(Answer::Delivered(channel, record)) = reply {
+        push_record(line, channel, record);
     }
 }
 
-// A command's line. It takes at most 124 bytes: the number 10, the command byte 3, the refusal 11, a delivery 99, the end 1.
-fn push_line(text: &mut [u8], number: u32, command: u8, reply: Reply) -> usize
-    requires { line_room ≤ length text.old }
-    ensures { Appends text.old text.new 0 result (line_of number command reply) line_room }
-{
-    let answer = reply.answer;
-    let refusal = refusal_in(answer);
-    let numbered = text::push_decimal(text, 0, number);
-    let named = text::push_hex(text, numbered, command);
-    let answered = text::push_field(text, named, refusal as u32);
-    let told = push_delivery(text, answered, reply);
-    text::push(text, told, NEWLINE)
-}
-
-// Puts a line at a place of the buffer, or nothing where it does not fit from there on.
-fn put_text(bytes: &mut [u8], place: usize, line: &[u8]) -> Put
+// Puts a line at a place of the buffer, or nothing where it does not fit from there on. The place comes beside the buffer, since the
+// promise is of the whole buffer: where there is no room it is as it was, and where there is, but for the line.
+fn put(bytes: &mut [u8], place: usize, line: &Line) -> Option<usize>
     ensures value { result ≡ put_answer bytes.old place line.now }
     ensures bytes_after { bytes.new ≡ put bytes.old place line.now }
+    ensures within { length line.now ≤ line_room }
 {
-    if bytes.len() < place {
-        return Put::NoRoom;
+    let text = line.as_bytes();
+    let room = bytes.len().checked_sub(place)?;
+    if room < text.len() {
+        return None;
     }
-    if bytes.len() - place < line.len() {
-        return Put::NoRoom;
-    }
-    let next = text::push_all(bytes, place, line);
-    Put::Written { next }
+    let end = place + text.len();
+    bytes[place..end].copy_from_slice(text);
+    Some(end)
 }
 
-// Writes a command's line: its number from 1, the command byte, the refusal or 0, and what was delivered.
-pub fn write_line(bytes: &mut [u8], place: usize, number: u32, command: u8, reply: Reply) -> Put
+// A command's line: its number from 1, the command byte, the refusal or 0, and what was delivered.
+fn line_of(number: u32, command: u8, reply: Reply) -> Line
+    ensures { result ≡ line_of number command reply }
+{
+    let mut line = Line::new();
+    line.push_number(number);
+    line.push_hex(command);
+    line.push_field(refusal::number_in(&reply));
+    push_delivery(&mut line, reply);
+    line.push(b'\n');
+    line
+}
+
+// The last line: how many commands were accepted, and how many refused.
+fn end_of(accepted: u32, refused: u32) -> Line
+    ensures { result ≡ end_of accepted refused }
+{
+    let mut line = Line::new();
+    line.push_all(b"end");
+    line.push_field(accepted);
+    line.push_field(refused);
+    line.push(b'\n');
+    line
+}
+
+// The only line of a tape that is too long.
+fn too_long() -> Line
+    ensures { result ≡ too_long }
+{
+    let mut line = Line::new();
+    line.push_all(b"too long\n");
+    line
+}
+
+// Writes a command's line at a place of the buffer: the place after it, or nothing where it does not fit.
+pub fn write_line(
+    bytes: &mut [u8],
+    place: usize,
+    number: u32,
+    command: u8,
+    reply: Reply,
+) -> Option<usize>
     ensures value { result ≡ put_answer bytes.old place (line_of number command reply) }
     ensures bytes_after { bytes.new ≡ put bytes.old place (line_of number command reply) }
     ensures within { length (line_of number command reply) ≤ line_room }
 {
-    let mut text = [0u8; LINE_ROOM];
-    let end = push_line(&mut text, number, command, reply);
-    put_text(bytes, place, &text[..end])
+    put(bytes, place, &line_of(number, command, reply))
 }
 
-// Writes the last line: how many commands were accepted, and how many refused.
-pub fn write_end(bytes: &mut [u8], place: usize, accepted: u32, refused: u32) -> Put
+// Writes the last line in the same way.
+pub fn write_end(bytes: &mut [u8], place: usize, accepted: u32, refused: u32) -> Option<usize>
     ensures value { result ≡ put_answer bytes.old place (end_of accepted refused) }
     ensures bytes_after { bytes.new ≡ put bytes.old place (end_of accepted refused) }
     ensures within { length (end_of accepted refused) ≤ line_room }
 {
-    let mut text = [0u8; LINE_ROOM];
-    let word_end = text::push_all(&mut text, 0, b"end");
-    let accepted_end = text::push_field(&mut text, word_end, accepted);
-    let refused_end = text::push_field(&mut text, accepted_end, refused);
-    let end = text::push(&mut text, refused_end, NEWLINE);
-    put_text(bytes, place, &text[..end])
+    put(bytes, place, &end_of(accepted, refused))
 }
 
 // Writes the only line of a tape that is too long.
-pub fn write_too_long(bytes: &mut [u8], place: usize) -> Put
+pub fn write_too_long(bytes: &mut [u8], place: usize) -> Option<usize>
     ensures value { result ≡ put_answer bytes.old place too_long }
     ensures bytes_after { bytes.new ≡ put bytes.old place too_long }
     ensures within { length too_long ≤ line_room }
 {
-    let mut text = [0u8; LINE_ROOM];
-    let word_end = text::push_all(&mut text, 0, b"too long");
-    let end = text::push(&mut text, word_end, NEWLINE);
-    put_text(bytes, place, &text[..end])
+    put(bytes, place, &too_long())
 }

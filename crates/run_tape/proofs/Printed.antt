@@ -1,5 +1,6 @@
 -- The listing of a tape, printed piece by piece.
-use Rattle.std.proofs.Common.{ℕ, ◌<◌, ◌≡◌, true, List, [], ◌++◌, length, take, Option, None, Some, IfSome, sym, ap, ◌∙◌, append_assoc, inl, inr, arith}
+use Rattle.std.proofs.Common.{ℕ, ◌<◌, ◌≡◌, true, List, [], ◌++◌, length, take, Option, None, Some, IfSome, Result, Ok, IfOk, sym, ap, ◌∙◌, append_assoc, inl, inr, arith}
+use Rattle.std.proofs.lemmas.Result.{IfOk-at_ok}
 use Rattle.std.proofs.lemmas.List.{append-nil, length-take, take_all}
 use Rattle.std.specs.Io.KnownBytes.{Appends}
 use Rattle.std.proofs.lemmas.Bool.{cases_lt}
@@ -8,6 +9,7 @@ use Rattle.runner.specs.Session.{beginning, longest}
 use Rattle.runner.specs.Listing.{to_come, listing_of}
 use Rattle.runner.proofs.Counts.{from-the-beginning}
 use Rattle.runner.proofs.Lines.{nothing-after, too-long-alone}
+use Rattle.run_tape.specs.Input.{IsFront}
 use Rattle.run_tape.proofs.Pieces.{none-written, write-on}
 
 -- the bytes that were printed and those that are then to come are together the listing
@@ -43,8 +45,12 @@ enough bytes n h =
     ]
 
 -- what was read is the front of the input, so its listing is the input's
-pub all-listed : (left before now : Option (List ℕ)) (buffer : List ℕ) (len : ℕ)
-    → IfSome left (λ bytes. take len buffer ≡ take (length buffer) bytes) → longest < length buffer
+listed : (left before now : Option (List ℕ)) (buffer : List ℕ) (len : ℕ) → IsFront left len buffer → longest < length buffer
     → Appends before now (listing_of (take len buffer)) → IfSome left (λ bytes. Appends before now (listing_of bytes))
-all-listed None before now buffer len e h p = tt
-all-listed (Some bytes) before now buffer len e h p = rw (e, enough bytes (length buffer) h) at p
+listed None before now buffer len e h p = tt
+listed (Some bytes) before now buffer len e h p = rw (e, enough bytes (length buffer) h) at p
+
+pub all-listed : {E : Type 0} (left before now : Option (List ℕ)) (buffer : List ℕ) (len : ℕ) (read : Result ℕ E)
+    → IfOk read (λ n. IsFront left n buffer) → read ≡ Ok len → longest < length buffer
+    → Appends before now (listing_of (take len buffer)) → IfSome left (λ bytes. Appends before now (listing_of bytes))
+all-listed left before now buffer len read front e = listed left before now buffer len (IfOk-at_ok _ e front)

@@ -9,9 +9,9 @@ use Rattle.network.specs.declared.Step.{Step}
 use Rattle.network.specs.Answers.{call_of, step_of}
 use Rattle.network.specs.Calls.{refused}
 use Rattle.network.proofs.Ground.Splits.{by-test, by_less}
-use Rattle.command.specs.declared.Command.{Command}
-use Rattle.tape.specs.declared.ReadAnswer.{ReadAnswer}
-use Rattle.tape.specs.declared.ReadAnswer.TheVariants.{Read, End, Refused}
+use Rattle.std.specs.Prelude.{Option, Some, None, Result, Ok, Err}
+use Rattle.refusal.specs.declared.Refusal.{Refusal}
+use Rattle.tape.specs.declared.Reading.{Reading}
 use Rattle.tape.specs.Tape.{read_at}
 use Rattle.runner.specs.declared.Session.{Session}
 use Rattle.network.specs.Answers.{is_refusal}
@@ -40,25 +40,23 @@ module _ (tape : List ℕ) where
       let c : s.refused < 4294967295 = omega (arith, k.refused) in
       rw (below s.number a, below s.accepted b, below s.refused c)
 
-  same_in : (n : ℕ) (s : Session) (a : ReadAnswer) (c : Command) → Countable (suc n) s
-      → next_in by_one tape s a c ≡ next_in next_count tape s a c
-  same_in n s (Read after) c k = answered-same n s (step_ring (call_of c) s.ring) after k
-  same_in n s End c k = refl
-  same_in n s (Refused r) c k = answered-same n s (step_of s.ring (refused r)) (length tape) k
+  same_in : (n : ℕ) (s : Session) (a : Result (Option Reading) Refusal) → Countable (suc n) s
+      → next_in by_one tape s a ≡ next_in next_count tape s a
+  same_in n s (Ok (Some r)) k = answered-same n s (step_ring (call_of r.command) s.ring) r.next k
+  same_in n s (Ok None) k = refl
+  same_in n s (Err r) k = answered-same n s (step_of s.ring (refused r)) (length tape) k
 
   next-same : (n : ℕ) (s : Session) → Countable (suc n) s → next by_one tape s ≡ next next_count tape s
   next-same n s k =
       by_less longest (length tape) (λ h. next-too-long by_one tape s h ∙ sym (next-too-long next_count tape s h)) λ h.
-      next-after by_one tape s (read_at tape s.place) h refl
-      ∙ same_in n s (read_at tape s.place).answer (read_at tape s.place).command k
-      ∙ sym (next-after next_count tape s (read_at tape s.place) h refl)
+      next-after by_one tape s h ∙ same_in n s (read_at tape s.place) k ∙ sym (next-after next_count tape s h)
 
   answered-countable : (n : ℕ) (s : Session) (step : Step) (after : ℕ) → Countable (suc n) s → Countable n (passed by_one s step after)
   answered-countable n s step after k =
       let a : s.number + 1 + n ≤ 4294967295 = omega (arith, k.numbered) in
       let b : s.accepted + 1 + n ≤ 4294967295 = omega (arith, k.accepted) in
       let c : s.refused + 1 + n ≤ 4294967295 = omega (arith, k.refused) in
-      by-test (is_refusal step.reply.answer)
+      by-test (is_refusal step.reply)
       (λ e. rw e (record { numbered = a; accepted = omega arith; refused = c }))
       λ e. rw e (record { numbered = a; accepted = b; refused = omega arith })
 
@@ -66,17 +64,16 @@ module _ (tape : List ℕ) where
   ended-countable n s k =
       record { numbered = omega (arith, k.numbered); accepted = omega (arith, k.accepted); refused = omega (arith, k.refused) }
 
-  countable-in : (n : ℕ) (s : Session) (a : ReadAnswer) (c : Command) → Countable (suc n) s
-      → Countable n (next_in by_one tape s a c).session
-  countable-in n s (Read after) c k = answered-countable n s (step_ring (call_of c) s.ring) after k
-  countable-in n s End c k = ended-countable n s k
-  countable-in n s (Refused r) c k = answered-countable n s (step_of s.ring (refused r)) (length tape) k
+  countable-in : (n : ℕ) (s : Session) (a : Result (Option Reading) Refusal) → Countable (suc n) s
+      → Countable n (next_in by_one tape s a).session
+  countable-in n s (Ok (Some r)) k = answered-countable n s (step_ring (call_of r.command) s.ring) r.next k
+  countable-in n s (Ok None) k = ended-countable n s k
+  countable-in n s (Err r) k = answered-countable n s (step_of s.ring (refused r)) (length tape) k
 
   next-countable : (n : ℕ) (s : Session) → Countable (suc n) s → Countable n (next by_one tape s).session
   next-countable n s k =
       by_less longest (length tape) (λ h. rw (next-too-long by_one tape s h) (ended-countable n s k)) λ h.
-      rw (next-after by_one tape s (read_at tape s.place) h refl)
-      (countable-in n s (read_at tape s.place).answer (read_at tape s.place).command k)
+      rw (next-after by_one tape s h) (countable-in n s (read_at tape s.place) k)
 
   lines_same : (n : ℕ) (s : Session) → Countable n s → lines by_one n tape s ≡ lines next_count n tape s
   unfolding lines

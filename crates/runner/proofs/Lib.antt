@@ -3,5 +3,4 @@ pub mod Put
 pub mod Lines
 pub mod Counts
 pub mod SoFar
-pub mod Turns
 pub mod TapeRun

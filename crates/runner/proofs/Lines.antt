@@ -9,43 +9,37 @@ use native.Mathlib.Nat.{add-zero, add-suc}
 use native.Mathlib.Omega.{arith}
 use lib.ListN.{length, get_or, drop, length-append, length-drop}
 use borrow.Author.Tests.{lt-ltb, le-ltb, eq-eqb, ne_eqb}
+use Rattle.std.specs.Prelude.{Option, Some, None, Result, Ok, Err}
 use Rattle.refusal.specs.declared.Refusal.{Refusal}
-use Rattle.network.specs.declared.Step.{Step}
-use Rattle.network.specs.Answers.{call_of, step_of}
-use Rattle.network.specs.Layout.{step_ring}
-use Rattle.network.specs.Calls.{refused}
 use Rattle.network.proofs.Ground.Splits.{by-test, by-same, by_less, both_ways}
-use Rattle.command.specs.declared.Command.{Command}
 use Rattle.tape.specs.declared.Reading.{Reading}
-use Rattle.tape.specs.declared.ReadAnswer.{ReadAnswer}
-use Rattle.tape.specs.declared.ReadAnswer.TheVariants.{Read, End, Refused}
 use Rattle.tape.specs.Shape.{width_of}
 use Rattle.tape.specs.Table.{Row, row_of}
 use Rattle.tape.specs.Tape.{read_at, read_row}
+use Rattle.tape.proofs.Shapes.{some_bytes}
 use Rattle.report.specs.Line.{line_of, end_of, too_long}
 use Rattle.runner.specs.declared.Session.{Session}
-use Rattle.runner.specs.Session.{longest, beginning, ended, last_line, answered, next_in, next, lines, after_lines, all_lines}
+use Rattle.runner.specs.Session.{longest, beginning, ended, last_line, next_in, next, lines, after_lines, all_lines}
 use Rattle.network.specs.Sound.{next_count}
 use Rattle.runner.specs.Listing.{by_one, listing_of, to_come, TooLongAlone, NothingAfter, LineByLine, NotCut}
 
 -- what a reading says of the place after it
 
-abbrev Ahead : List ℕ → ℕ → ReadAnswer → Type 0
-Ahead tape place (Read after) = (place < after) × (after ≤ length tape)
-Ahead tape place End = Unit {0}
-Ahead tape place (Refused r) = place ≢ length tape
+abbrev Ahead : List ℕ → ℕ → Result (Option Reading) Refusal → Type 0
+Ahead tape place (Ok (Some r)) = (place < r.next) × (r.next ≤ length tape)
+Ahead tape place (Ok None) = Unit {0}
+Ahead tape place (Err r) = place ≢ length tape
 
-ahead-row : (tape : List ℕ) (place : ℕ) (r : Row) → place < length tape
-    → Ahead tape place (read_row r place (drop place tape)).answer
+ahead-row : (tape : List ℕ) (place : ℕ) (o : Option Row) → place < length tape → Ahead tape place (read_row o place (drop place tape))
 unfolding read_row
-ahead-row tape place r h =
+ahead-row tape place None h = λ q. omega arith
+ahead-row tape place (Some r) h =
     let size = length-drop place tape in
-    by-same (width_of r.shape) 0 (λ e. rw (eq-eqb (width_of r.shape) 0 e) (λ q. omega arith)) λ e.
     by_less (length (drop place tape)) (width_of r.shape)
-    (λ l. rw (ne_eqb (width_of r.shape) 0 e, lt-ltb (length (drop place tape)) (width_of r.shape) l) (λ q. omega arith))
-    λ l. rw (ne_eqb (width_of r.shape) 0 e, le-ltb (length (drop place tape)) (width_of r.shape) l) (omega arith, omega arith)
+    (λ l. rw (lt-ltb (length (drop place tape)) (width_of r.shape) l) (λ q. omega arith)) λ l.
+    rw (le-ltb (length (drop place tape)) (width_of r.shape) l) (omega (arith, some_bytes r.shape), omega arith)
 
-ahead : (tape : List ℕ) (place : ℕ) → Ahead tape place (read_at tape place).answer
+ahead : (tape : List ℕ) (place : ℕ) → Ahead tape place (read_at tape place)
 unfolding read_at
 ahead tape place =
     by_less (length tape) place (λ h. rw (lt-ltb (length tape) place h) (λ q. omega arith)) λ h.
@@ -56,48 +50,27 @@ ahead tape place =
 abbrev left : List ℕ → Session → ℕ
 left tape s = cond s.over 0 (length tape - s.place + min 1 (s.place - length tape) + 1)
 
--- the tape is short enough, and this was read where the session stands
-pub record Reads (tape : List ℕ) (s : Session) (r : Reading) : Type 0 where
-  pub short : length tape ≤ longest
-  pub reading : r ≡ read_at tape s.place
-
 module _ (up : ℕ → ℕ) (tape : List ℕ) where
   -- `next` by the length of the tape and by what was read
   pub next-too-long : (s : Session) → longest < length tape → next up tape s ≡ last_line too_long s
   unfolding next
   next-too-long s h = rw (lt-ltb longest (length tape) h)
 
-  pub next-after : (s : Session) (r : Reading) → length tape ≤ longest → r ≡ read_at tape s.place
-      → next up tape s ≡ next_in up tape s r.answer r.command
+  pub next-after : (s : Session) → length tape ≤ longest → next up tape s ≡ next_in up tape s (read_at tape s.place)
   unfolding next
-  next-after s r h e = rw (le-ltb longest (length tape) h, e)
+  next-after s h = rw (le-ltb longest (length tape) h)
 
-  -- the same by cases, for a tape that is short enough and was read
-  pub next-read : {s : Session} {r : Reading} {step : Step} {after : ℕ} → Reads tape s r → r.answer ≡ Read after
-      → step ≡ step_ring (call_of r.command) s.ring → next up tape s ≡ answered up tape s step after
-  next-read {s} {r} h a e =
-      next-after s r h.short h.reading ∙ ap (λ (x : ReadAnswer). next_in up tape s x r.command) a ∙ rw e
-
-  pub next-end : {s : Session} {r : Reading} → Reads tape s r → r.answer ≡ End
-      → next up tape s ≡ last_line (end_of s.accepted s.refused) s
-  next-end {s} {r} h a = next-after s r h.short h.reading ∙ ap (λ (x : ReadAnswer). next_in up tape s x r.command) a
-
-  pub next-refused : {s : Session} {r : Reading} {x : Refusal} → Reads tape s r → r.answer ≡ Refused x
-      → next up tape s ≡ answered up tape s (step_of s.ring (refused x)) (length tape)
-  next-refused {s} {r} h a = next-after s r h.short h.reading ∙ ap (λ (x : ReadAnswer). next_in up tape s x r.command) a
-
-  fewer-in : (s : Session) (a : ReadAnswer) (c : Command) → s.over ≡ false → Ahead tape s.place a
-      → left tape (next_in up tape s a c).session < left tape s
-  fewer-in s (Read after) c e h = rw e (omega arith)
-  fewer-in s End c e h = rw e (omega arith)
-  fewer-in s (Refused r) c e h = rw e (omega arith)
+  fewer-in : (s : Session) (a : Result (Option Reading) Refusal) → s.over ≡ false → Ahead tape s.place a
+      → left tape (next_in up tape s a).session < left tape s
+  fewer-in s (Ok (Some r)) e h = rw e (omega arith)
+  fewer-in s (Ok None) e h = rw e (omega arith)
+  fewer-in s (Err r) e h = rw e (omega arith)
 
   -- a line leaves fewer to come
   fewer : (s : Session) → s.over ≡ false → left tape (next up tape s).session < left tape s
   fewer s e =
       by_less longest (length tape) (λ h. rw (next-too-long s h, e) (omega arith)) λ h.
-      rw (next-after s (read_at tape s.place) h refl)
-      (fewer-in s (read_at tape s.place).answer (read_at tape s.place).command e (ahead tape s.place))
+      rw (next-after s h) (fewer-in s (read_at tape s.place) e (ahead tape s.place))
 
   none_over : (s : Session) (n : ℕ) → s.over ≡ true → lines up n tape s ≡ []
   unfolding lines
@@ -134,12 +107,12 @@ module _ (up : ℕ → ℕ) (tape : List ℕ) where
       let few : left tape (next up tape s).session ≤ length tape + 1 = omega (arith, fewer s e, most-left s) in
       rw (k, one_more s (length tape + 1) e, settled (length tape + 1) (next up tape s).session few)
 
-  after-over : (n : ℕ) (s : Session) → s.over ≡ true → after_lines up n tape s ≡ s
+  pub after-over : (n : ℕ) (s : Session) → s.over ≡ true → after_lines up n tape s ≡ s
   unfolding after_lines
   after-over zero s e = refl
   after-over (suc n) s e = rw e
 
-  after_on : (n : ℕ) (s : Session) → s.over ≡ false → after_lines up (suc n) tape s ≡ after_lines up n tape (next up tape s).session
+  pub after_on : (n : ℕ) (s : Session) → s.over ≡ false → after_lines up (suc n) tape s ≡ after_lines up n tape (next up tape s).session
   unfolding after_lines
   after_on n s e = rw e
 
@@ -176,18 +149,17 @@ module _ (up : ℕ → ℕ) (tape : List ℕ) where
       ∙ ap (λ (x : Session). lines up (suc n) tape s ++ (next up tape x).line) (sym (after_on n s o))
 
   -- no line is empty
-  some-line-in : (s : Session) (a : ReadAnswer) (c : Command) → 0 < length (next_in up tape s a c).line
+  some-line-in : (s : Session) (a : Result (Option Reading) Refusal) → 0 < length (next_in up tape s a).line
   unfolding line_of end_of
-  some-line-in s (Read after) c = simp length-append (omega arith)
-  some-line-in s End c = simp length-append (omega arith)
-  some-line-in s (Refused r) c = simp length-append (omega arith)
+  some-line-in s (Ok (Some r)) = simp length-append (omega arith)
+  some-line-in s (Ok None) = simp length-append (omega arith)
+  some-line-in s (Err r) = simp length-append (omega arith)
 
   pub some-line : (s : Session) → 0 < length (next up tape s).line
   unfolding too_long
   some-line s =
       by_less longest (length tape) (λ h. rw (next-too-long s h) (omega arith)) λ h.
-      rw (next-after s (read_at tape s.place) h refl)
-      (some-line-in s (read_at tape s.place).answer (read_at tape s.place).command)
+      rw (next-after s h) (some-line-in s (read_at tape s.place))
 
 pub not-cut : NotCut
 not-cut up tape s zero = rw add-zero

@@ -5,18 +5,17 @@ use mathlib.Core.List.{List}
 use native.Mathlib.Omega.{arith}
 use lib.ListN.{length}
 use borrow.Author.Tests.{le-leb}
+use Rattle.std.proofs.Common.{Option, unwrap_or}
 use Rattle.wire.specs.Bytes.{overwritten}
-use Rattle.report.specs.declared.Put.{Put}
 use Rattle.report.specs.Line.{line_room}
 use Rattle.report.specs.Put.{put_answer, put}
-use Rattle.runner.specs.Run.{Placed, end_of_put}
+use Rattle.runner.specs.Run.{Placed}
 
-pub placed : (line : List ℕ) (at : ℕ) (before after : List ℕ) (answer : Put) (end : ℕ) → at + line_room ≤ length before
-    → (answer ≡ put_answer before at line) × ((after ≡ put before at line) × (length line ≤ line_room))
-    → end ≡ end_of_put answer at
+pub placed : {line : List ℕ} {at : ℕ} {before after : List ℕ} {answer : Option ℕ} {end : ℕ} → at + line_room ≤ length before
+    → answer ≡ put_answer before at line → after ≡ put before at line → length line ≤ line_room → end ≡ unwrap_or answer at
     → Placed line at before after end
 unfolding put_answer put overwritten
-placed line at before after answer end room w e =
+placed {line} {at} {before} {end = end} room a b within e =
     let fits = le-leb (at + length line) (length before) (omega arith) in
-    let ends : end ≡ at + length line = e ∙ rw (w.0, fits) in
-    record { ends = ends; within = omega arith; buffer = w.1.0 ∙ rw fits }
+    let ends : end ≡ at + length line = e ∙ rw (a, fits) in
+    record { ends = ends; within = omega arith; buffer = b ∙ rw fits }

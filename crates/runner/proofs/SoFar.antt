@@ -10,7 +10,6 @@ use Rattle.wire.specs.Bytes.{overwritten}
 use Rattle.wire.proofs.Buffer.{length-overwritten}
 use Rattle.report.specs.Line.{line_room}
 use Rattle.runner.specs.declared.Session.{Session}
-use Rattle.runner.specs.declared.Progress.{Progress}
 use Rattle.runner.specs.Session.{next, lines, after_lines}
 use Rattle.network.specs.Sound.{next_count}
 use Rattle.runner.specs.Listing.{to_come}
@@ -101,17 +100,17 @@ module _ {tape before : List ℕ} {first : Session} {out : List ℕ} {s : Sessio
   shorter = rw (t.session, line-by-line tape s e, length-append) (omega (arith, some-line next_count tape s))
 
 -- For a caller that runs a tape until it is over: each run into a buffer with room for a line leaves fewer bytes to come.
-pub fewer-to-come : {tape before after : List ℕ} {s : Session} {p : Progress} → TapeRan tape s before after p
+pub fewer-to-come : {tape before after : List ℕ} {s s' : Session} {written : ℕ} → TapeRan tape s before after s' written
     → length after ≡ length before → s.over ≡ false → line_room ≤ length before
-    → length (to_come tape p.session) < length (to_come tape s)
-fewer-to-come {tape} {before} {after} {s} {p} r same e room =
-    let size = length-take-le p.written after (omega (arith, r.within)) in
+    → length (to_come tape s') < length (to_come tape s)
+fewer-to-come {tape} {before} {after} {s} {s'} {written} r same e room =
+    let size = length-take-le written after (omega (arith, r.within)) in
     rw (← r.text, length-append, size) (omega (arith, r.forward e room))
 
 all-printed : {tape bytes : List ℕ} {s : Session} → Printing tape s bytes → bytes ≡ to_come tape s
 all-printed {tape} {bytes} {s} (finished e) = sym (nothing-after tape s e)
-all-printed {tape} {bytes} {s} (Run.ran {after = after} {p = p} r rest) =
-    ap (λ (l : List ℕ). take p.written after ++ l) (all-printed rest) ∙ r.text
+all-printed {tape} {bytes} {s} (Run.ran {after = after} {written = written} r rest) =
+    ap (λ (l : List ℕ). take written after ++ l) (all-printed rest) ∙ r.text
 
 pub prints-the-listing : PrintsTheListing
 prints-the-listing tape bytes p = all-printed p ∙ from-the-beginning tape

@@ -1,8 +1,6 @@
 -- The definitions that the contracts of the tape's run cite, and the statements of the theorems about them.
--- Read in this order: Commands, Session, Listing; then Run, which says what a run into a lent buffer does.
--- Tally has the steps of that run, without the ring.
+-- Read in this order: Session, Listing; then Run, which says what a run into a lent buffer does.
 pub mod Session
 pub mod Listing
 pub mod Run
-pub mod Tally
 pub mod TapeRun

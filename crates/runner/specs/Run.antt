@@ -3,10 +3,7 @@
 use Rattle.std.specs.Prelude.{ℕ, ◌+◌, ◌<◌, ◌≤◌, ◌≡◌, true, false, List, [], ◌++◌, length, take, drop}
 use Rattle.wire.specs.Bytes.{overwritten}
 use Rattle.report.specs.Line.{line_room}
-use Rattle.report.specs.declared.Put.{Put}
-use Rattle.report.specs.declared.Put.TheVariants.{Written, NoRoom}
 use Rattle.runner.specs.declared.Session.{Session}
-use Rattle.runner.specs.declared.Progress.{Progress}
 use Rattle.runner.specs.Session.{Printed, beginning, lines, after_lines}
 use Rattle.network.specs.Sound.{next_count}
 use Rattle.runner.specs.Listing.{listing_of, to_come}
@@ -14,22 +11,22 @@ use Rattle.runner.specs.Listing.{listing_of, to_come}
 -- A run of a tape from session s: the next `count` lines, at the front of the buffer, and the session after them; the rest of the buffer
 -- is as it was. The run ends only where the session is over or there is less room than for the longest line, so something is written
 -- where there is room and a line to come. What was written and what is then to come are together what was to come.
-pub record TapeRan (tape : List ℕ) (s : Session) (before after : List ℕ) (p : Progress) : Type 0 where
+pub record TapeRan (tape : List ℕ) (s : Session) (before after : List ℕ) (s' : Session) (written : ℕ) : Type 0 where
   pub count : ℕ
-  pub session : p.session ≡ after_lines next_count count tape s
-  pub printed : take p.written after ≡ lines next_count count tape s
-  pub rest : drop p.written after ≡ drop p.written before
-  pub within : p.written ≤ length before
-  pub full : p.session.over ≡ false → length before < p.written + line_room
-  pub forward : s.over ≡ false → line_room ≤ length before → 0 < p.written
-  pub text : take p.written after ++ to_come tape p.session ≡ to_come tape s
+  pub session : s' ≡ after_lines next_count count tape s
+  pub printed : take written after ≡ lines next_count count tape s
+  pub rest : drop written after ≡ drop written before
+  pub within : written ≤ length before
+  pub full : s'.over ≡ false → length before < written + line_room
+  pub forward : s.over ≡ false → line_room ≤ length before → 0 < written
+  pub text : take written after ++ to_come tape s' ≡ to_come tape s
 
 -- Runs of a tape one after the other, each from the session that the one before left, until it is over; the bytes are all that they
 -- wrote.
 pub data Printing (tape : List ℕ) : Session → List ℕ → Type 0 where
   finished : {s : Session} → s.over ≡ true → Printing tape s []
-  ran : {s : Session} {before after : List ℕ} {p : Progress} {bytes : List ℕ} → TapeRan tape s before after p
-      → Printing tape p.session bytes → Printing tape s (take p.written after ++ bytes)
+  ran : {s s' : Session} {before after : List ℕ} {written : ℕ} {bytes : List ℕ} → TapeRan tape s before after s' written
+      → Printing tape s' bytes → Printing tape s (take written after ++ bytes)
 
 -- a caller that runs a tape from the beginning until it is over prints the tape's listing
 abbrev pub PrintsTheListing : Type 0
@@ -45,8 +42,3 @@ pub record Placed (line : List ℕ) (at : ℕ) (before after : List ℕ) (end : 
 pub record PrintedPut (printed : Printed) (at : ℕ) (before after : List ℕ) (s : Session) (end : ℕ) : Type 0 where
   pub session : s ≡ printed.session
   pub line : Placed printed.line at before after end
-
--- the place after what was put
-abbrev pub end_of_put : Put → ℕ → ℕ
-end_of_put (Written next) at = next
-end_of_put NoRoom at = at

@@ -1,13 +1,12 @@
 -- A run of a tape, line by line: a session says where the run stands, and `next` what it prints next, in the words of document 01,
 -- "Command tape". How a count rises is a parameter: by one in the listing, and up to the largest number of 32 bits in the program.
-use Rattle.std.specs.Prelude.{ℕ, zero, suc, ◌+◌, true, false, cond, List, [], ◌++◌, ltb, length, get_or}
+use Rattle.std.specs.Prelude.{ℕ, zero, suc, ◌+◌, true, false, cond, List, [], ◌++◌, ltb, length, get_or, Option, Some, None, Result, Ok, Err}
 use Rattle.network.specs.declared.Step.{Step}
 use Rattle.network.specs.Answers.{call_of, step_of, is_refusal}
 use Rattle.network.specs.Calls.{refused}
 use Rattle.network.specs.Layout.{fresh_ring, step_ring}
-use Rattle.command.specs.declared.Command.{Command}
-use Rattle.tape.specs.declared.ReadAnswer.{ReadAnswer}
-use Rattle.tape.specs.declared.ReadAnswer.TheVariants.{Read, End, Refused}
+use Rattle.refusal.specs.declared.Refusal.{Refusal}
+use Rattle.tape.specs.declared.Reading.{Reading}
 use Rattle.tape.specs.Tape.{read_at}
 use Rattle.report.specs.Line.{line_of, end_of, too_long}
 use Rattle.runner.specs.declared.Session.{Session}
@@ -40,8 +39,8 @@ module _ (up : ℕ → ℕ) where
     ring = step.ring;
     place = next;
     number = up s.number;
-    accepted = cond (is_refusal step.reply.answer) s.accepted (up s.accepted);
-    refused = cond (is_refusal step.reply.answer) (up s.refused) s.refused;
+    accepted = cond (is_refusal step.reply) s.accepted (up s.accepted);
+    refused = cond (is_refusal step.reply) (up s.refused) s.refused;
     over = s.over;
   }
 
@@ -54,16 +53,16 @@ module _ (up : ℕ → ℕ) where
 
   -- What is printed after a reading. A command that was read is called on the ring. One that the reader refuses has its line and
   -- counts as refused, and nothing further is read: the next place is the end of the tape. At the end comes the last line.
-  abbrev pub next_in : List ℕ → Session → ReadAnswer → Command → Printed
-  next_in tape s (Read place) c = answered tape s (step_ring (call_of c) s.ring) place
-  next_in tape s (Refused r) c = answered tape s (step_of s.ring (refused r)) (length tape)
-  next_in tape s End c = last_line (end_of s.accepted s.refused) s
+  abbrev pub next_in : List ℕ → Session → Result (Option Reading) Refusal → Printed
+  next_in tape s (Ok (Some r)) = answered tape s (step_ring (call_of r.command) s.ring) r.next
+  next_in tape s (Ok None) = last_line (end_of s.accepted s.refused) s
+  next_in tape s (Err r) = answered tape s (step_of s.ring (refused r)) (length tape)
 
   -- a tape that is too long prints that and nothing else
   unfoldable pub next : List ℕ → Session → Printed
   next tape s =
       cond (ltb longest (length tape)) (last_line too_long s)
-      (next_in tape s (read_at tape s.place).answer (read_at tape s.place).command)
+      (next_in tape s (read_at tape s.place))
 
   -- the next lines, at most n of them
   unfoldable pub lines : ℕ → List ℕ → Session → List ℕ

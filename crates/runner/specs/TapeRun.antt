@@ -1,28 +1,27 @@
 -- The ring calls of a tape, and what is claimed of a run of it: the ring of the session after so many lines is the run of their calls from
 -- a fresh ring. So what is promised of every list of calls, demand 3 first, is promised of every tape.
-use Rattle.std.specs.Prelude.{ℕ, zero, suc, ◌≤◌, ◌<◌, ◌≡◌, List, [], ◌∷◌, ◌++◌, length}
+use Rattle.std.specs.Prelude.{ℕ, zero, suc, ◌≤◌, ◌<◌, ◌≡◌, List, [], ◌∷◌, ◌++◌, length, Option, Some, None, Result, Ok, Err}
 use Rattle.batch.specs.declared.BatchRecord.{BatchRecord}
 use Rattle.numbers.specs.declared.ChannelNo.{ChannelNo}
 use Rattle.network.specs.Layout.{fresh_ring, call_ring}
 use Rattle.network.specs.Runs.{Call, run, offered_on, delivered_on}
 use Rattle.network.specs.Sound.{next_count}
-use Rattle.command.specs.declared.Command.{Command}
-use Rattle.tape.specs.declared.ReadAnswer.{ReadAnswer}
-use Rattle.tape.specs.declared.ReadAnswer.TheVariants.{Read, End, Refused}
+use Rattle.refusal.specs.declared.Refusal.{Refusal}
+use Rattle.tape.specs.declared.Reading.{Reading}
 use Rattle.tape.specs.Tape.{read_at}
 use Rattle.network.specs.Answers.{call_of}
 use Rattle.runner.specs.Session.{longest, beginning, after_lines}
 
 -- the ring calls of the next n lines of a tape from a place on: a command that was read is a call, and what follows it; the end and a
 -- command that the reader refuses are none, and nothing further is read
-abbrev pub call_then : ReadAnswer → Command → (ℕ → List Call) → List Call
-call_then (Read next) c rest = call_of c ∷ rest next
-call_then End c rest = []
-call_then (Refused r) c rest = []
+abbrev pub call_then : Result (Option Reading) Refusal → (ℕ → List Call) → List Call
+call_then (Ok (Some r)) rest = call_of r.command ∷ rest r.next
+call_then (Ok None) rest = []
+call_then (Err r) rest = []
 
 unfoldable pub calls_from : ℕ → List ℕ → ℕ → List Call
 calls_from zero tape place = []
-calls_from (suc n) tape place = call_then (read_at tape place).answer (read_at tape place).command (calls_from n tape)
+calls_from (suc n) tape place = call_then (read_at tape place) (calls_from n tape)
 
 -- a tape that is not too long is the run of its calls
 abbrev pub RunsItsCalls : Type 0

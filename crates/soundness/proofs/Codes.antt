@@ -71,6 +71,16 @@ pub not-raised : (b : Bool) → one b ≡ 0 → not b ≡ true
 not-raised true e = absurd (omega arith)
 not-raised false e = refl
 
+pub raised : (b : Bool) → 1 ≤ one b → b ≡ true
+raised true l = refl
+raised false l = absurd (omega arith)
+
+pub same-one : (a b : Bool) → one a ≡ one b → a ≡ b
+same-one true true e = refl
+same-one true false e = absurd (omega arith)
+same-one false true e = absurd (omega arith)
+same-one false false e = refl
+
 pub none-offered : (o : Option BatchRecord) → offered_flag o ≡ 0 → o ≡ none
 none-offered none e = refl
 none-offered (some x) e = absurd (omega arith)

@@ -15,7 +15,7 @@ use Rattle.network.proofs.Memory.Held.{HeldNode, HeldChannel, Held, no-node, no-
 use Rattle.messages.specs.Messages.{Blank}
 use Rattle.soundness.specs.Fits.{UsedNode, UsedChannel, Nothing, Fits}
 use Rattle.messages.proofs.Zeros.{beyond-row}
-use Rattle.messages.proofs.PlacesMet.{Places, all-met}
+use Rattle.messages.proofs.RowsMet.{AllMet, all-met}
 use Rattle.soundness.proofs.Codes.{flag-kept, code-kept, carried-is, offered-kept, offer-is}
 use Rattle.soundness.proofs.Queues.{queue-kept, row_kept}
 use Rattle.soundness.proofs.View.{nodes, channels, begun, node-count-of, channel-count-of, node_of, channel-of}
@@ -29,27 +29,25 @@ module _ (ring : Ring) (f : Fits ring) where
   pub used-node : (p : ℕ) → p < nodes ring →
       UsedNode (begun ring) (get_or ring.head.capacity p 0) (get_or ring.head.used p 0) (get_or ring.head.waiting p 0)
       (get_or ring.head.marks p 0)
-  used-node p l = rw (lt-ltb p (nodes ring) l) at (f.nodes p (omega (arith, f.counts.nodes-within)))
+  used-node p l = rw (lt-ltb p (nodes ring) l) at (f.nodes.each p (omega (arith, f.counts.nodes-within)))
 
   blank-node : (p : ℕ) → nodes ring ≤ p → p < node_room →
       Nothing (get_or ring.head.capacity p 0) (get_or ring.head.used p 0) (get_or ring.head.waiting p 0)
       (get_or ring.head.marks p 0)
-  blank-node p l m = rw (le-ltb p (nodes ring) l) at (f.nodes p m)
+  blank-node p l m = rw (le-ltb p (nodes ring) l) at (f.nodes.each p m)
 
   pub used-channel : (k : ℕ) → k < channels ring →
       UsedChannel (begun ring) (nodes ring) (get_or ring.head.senders k 0) (get_or ring.head.receivers k 0)
       (get_or ring.head.phases k 0) (get_or ring.head.offered k 0)
-  used-channel k l = rw (lt-ltb k (channels ring) l) at (f.channels k (omega (arith, f.counts.channels-within)))
+  used-channel k l = rw (lt-ltb k (channels ring) l) at (f.channels.each k (omega (arith, f.counts.channels-within)))
 
   blank-channel : (k : ℕ) → channels ring ≤ k → k < channel_room →
       Nothing (get_or ring.head.senders k 0) (get_or ring.head.receivers k 0) (get_or ring.head.phases k 0)
       (get_or ring.head.offered k 0)
-  blank-channel k l m = rw (le-ltb k (channels ring) l) at (f.channels k m)
+  blank-channel k l m = rw (le-ltb k (channels ring) l) at (f.channels.each k m)
 
-  pub table :
-      Places (nodes ring) (channels ring) f.counts.channels-within ring.head.used ring.head.waiting ring.slots
-      ring.lines f.messages.places
-  table = all-met (nodes ring) (channels ring) f.counts.channels-within _ _ _ _ f.messages.places f.messages.marked
+  pub table : AllMet ring f.messages.met
+  table = all-met ring f.counts.channels-within f.messages.met f.messages.marked
 
   -- beyond what is in use there are zeros
 
@@ -69,8 +67,8 @@ module _ (ring : Ring) (f : Fits ring) where
       (λ here.
       let e = node_of ring p here in
       let u = used-node p here in
-      let buffer = table.buffers-used p here in
-      let line = table.lines-used p here in
+      let buffer = table.rows.buffers-used p here in
+      let line = table.rows.lines-used p here in
       record {
         capacity = rw e;
         used = rw e (queue-kept (channels ring) ring.head.used ring.slots f.messages.slots-whole p l buffer);

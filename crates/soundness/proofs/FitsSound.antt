@@ -1,5 +1,5 @@
 -- A ring that fits (specs/Fits) is sound: the ring that is read off its arrays passes every clause of soundness.
-use Prim.Native.Nat.{ℕ, ◌+◌, ◌≤◌, ◌<◌, min}
+use Prim.Native.Nat.{ℕ, ◌+◌, ◌≤◌, ◌<◌}
 use mathlib.Core.Path.{◌≡◌, refl, sym, ap, ◌∙◌}
 use mathlib.Core.Bool.{Bool, true, false, cond}
 use native.Mathlib.Omega.{arith}
@@ -7,22 +7,25 @@ use lib.ListN.{get_or}
 use borrow.Author.Tests.{lt-ltb, le-leb, eq-eqb, eqb-true, eqb-false}
 use Rattle.network.specs.declared.Ring.{Ring}
 use Rattle.network.specs.Counting.{one}
-use Rattle.network.specs.Network.{Network, node_no, channel_no, times_in, count_of_nodes, count_of_channels, node, channel, entry_of, target_of, times_on}
+use Rattle.network.specs.Network.{Network, node_no, channel_no, times_in, count_of_nodes, count_of_channels, node, channel, entry_of, target_of, times_on, moving}
 use Rattle.network.specs.Sound.{absent, sound_after, sound_before}
-use Rattle.network.specs.Layout.{ring_limits, channel_room, phase_code, record_at, view, sound_ring}
+use Rattle.network.specs.Layout.{ring_limits, phase_code, record_at, view, sound_ring}
 use Rattle.network.proofs.Ground.Splits.{and_both}
 use Rattle.network.proofs.Ground.Tests.{below_all}
-use Rattle.network.proofs.Ground.Counting.{sum_same}
+use Rattle.network.proofs.Ground.Counting.{sum_same, sum-term}
 use Rattle.network.proofs.Lists.Clauses.{NodeFacts, ChannelFacts, Facts, facts-sound, BufferFits, LineFits, entry-in, target-in}
 use Rattle.network.proofs.Memory.Held.{is-sound-ring}
 use Rattle.soundness.specs.Fits.{Fits}
-use Rattle.messages.specs.RowPass.{in_buffer, in_line}
+use Rattle.messages.specs.declared.rows.Place.{Place}
+use Rattle.messages.specs.declared.rows.Place.TheVariants.{Buffer, Line}
+use Rattle.messages.proofs.RowsMet.{met_at}
 use Rattle.messages.proofs.UsedCells.{queue-below}
-use Rattle.messages.proofs.OnTheWay.{decides-way, StandsBy, Way, ends-below, stands-moving, stands-way}
-use Rattle.soundness.proofs.Codes.{good-if-offered, good-if-carried, code-rests, not-raised, none-offered}
+use Rattle.messages.specs.Messages.{has_message, may_stand, may_stand_between}
+use Rattle.messages.proofs.OnTheWay.{decides-way, ends-below, by-code, message-by-code}
+use Rattle.soundness.proofs.Codes.{good-if-offered, good-if-carried, code-rests, not-raised, raised, none-offered}
 use Rattle.soundness.proofs.Queues.{queue-occupied}
 use Rattle.soundness.proofs.FitsHeld.{used-node, used-channel, table, node-held, channel-held, held}
-use Rattle.soundness.proofs.View.{nodes, channels, begun, Whole, node-count-of, channel-count-of, node_of, channel-of, hold-is, slots-of}
+use Rattle.soundness.proofs.View.{nodes, channels, begun, node-count-of, channel-count-of, node_of, channel-of, hold-is, slots-of}
 
 either_way : (b : Bool) {on off : Bool} → (b ≡ true → on ≡ true) → (b ≡ false → off ≡ true) → cond b on off ≡ true
 either_way true yes-so not_so = yes-so refl
@@ -32,53 +35,68 @@ module _ (ring : Ring) (f : Fits ring) where
   abbrev σ : Network
   σ = view ring
 
-  abbrev place : ℕ → ℕ
-  place k = get_or f.messages.places k 0
-
-  times-of : (k : ℕ) → times_on σ (channel_no k) ≡ min 1 (place k)
+  times-of : (k : ℕ) → times_on σ (channel_no k) ≡ met_at f.messages.met k
   times-of k =
       rw (node-count-of ring)
       (sum_same (nodes ring) _ _ (λ p l. rw (node_of ring p l)))
-      ∙ sym ((table ring f).counted k)
+      ∙ sym ((table ring f).once k)
 
-  stands : (k : ℕ) → k < channels ring → StandsBy (nodes ring) (channel σ (channel_no k)) (place k) (channel σ (channel_no k)).phase
-  stands k l =
-      let room : k < channel_room = omega (arith, f.counts.channels-within) in
-      let h = channel-held ring f k room in
-      rw (← h.phase, ← h.sender, ← h.receiver) (f.messages.right k l)
+  once : (k : ℕ) → k < channels ring → times_on σ (channel_no k) ≡ one (moving (channel σ (channel_no k)).phase)
+  once k l =
+      let h = channel-held ring f k (omega (arith, f.counts.channels-within)) in
+      times-of k ∙ ap one (f.messages.right k l ∙ ap has_message h.phase ∙ message-by-code (channel σ (channel_no k)).phase)
 
-  -- a message that stands somewhere is under way between nodes
-  module _ (k : ℕ) (l : k < channels ring) (some-place : 1 ≤ place k) where
-    under-way : Way (nodes ring) (channel σ (channel_no k)) (place k) (channel σ (channel_no k)).phase
-    under-way = stands-way (nodes ring) (channel σ (channel_no k)) (place k) (channel σ (channel_no k)).phase (stands k l) some-place
+  -- a channel that stands in some row has a message under way between nodes
+  module _ (k : ℕ) (l : k < channels ring) (stands : 1 ≤ times_on σ (channel_no k)) where
+    moves : moving (channel σ (channel_no k)).phase ≡ true
+    moves = raised _ (omega (arith, once k l))
 
-    ends :
-        ((entry_of (channel σ (channel_no k)) (channel σ (channel_no k)).phase).0 < nodes ring)
-        × ((target_of (channel σ (channel_no k)) (channel σ (channel_no k)).phase).0 < nodes ring)
+    enters : ℕ
+    enters = (entry_of (channel σ (channel_no k)) (channel σ (channel_no k)).phase).0
+
+    goes_to : ℕ
+    goes_to = (target_of (channel σ (channel_no k)) (channel σ (channel_no k)).phase).0
+
+    may-stand : (place : Place) → may_stand ring.head k place ≡ true → may_stand_between (nodes ring) enters goes_to place ≡ true
+    unfolding may_stand enters goes_to
+    may-stand place e =
+        let h = channel-held ring f k (omega (arith, f.counts.channels-within)) in
+        let way = by-code (channel σ (channel_no k)) (channel σ (channel_no k)).phase moves in
+        rw (h.phase, h.sender, h.receiver, way.0, way.1) at e
+
+    ends : (enters < nodes ring) × (goes_to < nodes ring)
+    unfolding enters goes_to
     ends =
         let u = used-channel ring f k l in
         let e = channel-of ring k l in
         ends-below (channel σ (channel_no k)) (nodes ring) (rw e u.sender-below) (rw e u.receiver-below) (channel σ (channel_no k)).phase
 
+  stands-on : (p k : ℕ) → p < nodes ring →
+      times_in (node σ (node_no p)).buffer (channel_no k) + times_in (node σ (node_no p)).line (channel_no k) ≤ times_on σ (channel_no k)
+  stands-on p k l =
+      sum-term (count_of_nodes σ) p (λ q. times_in (node σ (node_no q)).buffer (channel_no k) + times_in (node σ (node_no q)).line (channel_no k))
+      (rw (node-count-of ring) l)
+
   buffer-fits : (p k : ℕ) → p < nodes ring → 0 < times_in (node σ (node_no p)).buffer (channel_no k) → BufferFits σ p k
+  unfolding enters goes_to
   buffer-fits p k l in-it =
       let stands-there = rw (node_of ring p l) at in-it in
-      let known : k < channels ring = queue-below ((table ring f).buffers-used p l) k stands-there in
-      let at : place k ≡ in_buffer + p = (table ring f).in-buffer p k l stands-there in
-      let some-place : 1 ≤ place k = omega arith in
-      let way = (under-way k known some-place).in-buffer p (omega (arith, f.counts.nodes-within)) at in
-      let to = ends k known some-place in
+      let known : k < channels ring = queue-below ((table ring f).rows.buffers-used p l) k stands-there in
+      let stands : 1 ≤ times_on σ (channel_no k) = omega (arith, stands-on p k l) in
+      let way = may-stand k known stands (Buffer p) ((table ring f).rows.in-buffer p k l stands-there) in
+      let to = ends k known stands in
       let g = (channel σ (channel_no k)).phase in
       rw (channel-count-of ring, node-count-of ring, ← entry-in σ g k, ← target-in σ g k)
       (known, (decides-way (nodes ring) p _ _ l to.0 to.1).holds way)
 
   line-fits : (p k : ℕ) → p < nodes ring → 0 < times_in (node σ (node_no p)).line (channel_no k) → LineFits σ p k
+  unfolding enters
   line-fits p k l in-it =
       let stands-there = rw (node_of ring p l) at in-it in
-      let known : k < channels ring = queue-below ((table ring f).lines-used p l) k stands-there in
-      let at : place k ≡ in_line + p = (table ring f).in-line p k l stands-there in
+      let known : k < channels ring = queue-below ((table ring f).rows.lines-used p l) k stands-there in
+      let stands : 1 ≤ times_on σ (channel_no k) = omega (arith, stands-on p k l) in
       rw (channel-count-of ring, ← entry-in σ (channel σ (channel_no k)).phase k)
-      (known, (under-way k known (omega arith)).in-line p at)
+      (known, eqb-true p _ (may-stand k known stands (Line p) ((table ring f).rows.in-line p k l stands-there)))
 
   node-facts : (p : ℕ) → p < nodes ring → NodeFacts ring_limits σ p
   node-facts p l =
@@ -103,7 +121,7 @@ module _ (ring : Ring) (f : Fits ring) where
       record {
         sender-below = rw (node-count-of ring, e) u.sender-below;
         receiver-below = rw (node-count-of ring, e) u.receiver-below;
-        once = times-of k ∙ stands-moving (nodes ring) (channel σ (channel_no k)) (place k) (channel σ (channel_no k)).phase (stands k l);
+        once = once k l;
         ready-bare = λ r. none-offered (channel σ (channel_no k)).offer (sym h.offered ∙ u.state.ready-bare (h.phase ∙ ap phase_code r));
         good-offer = rw e (good-if-offered (record_at ring.offers k) (get_or ring.head.offered k 0) (f.records.offer-fits k l).good);
         good-carried =
@@ -143,18 +161,18 @@ module _ (ring : Ring) (f : Fits ring) where
   unfolding view
   at-start = either_way (begun ring) sound-after sound-before
 
-  facts : Whole ring.head → Facts ring_limits σ
+  facts : Facts ring_limits σ
   unfolding view
-  facts whole =
+  facts =
       record {
         node-limit = rw (node-count-of ring) f.counts.nodes-within;
         channel-limit = rw (channel-count-of ring) f.counts.channels-within;
-        delivery-limit = whole.deliveries;
+        delivery-limit = f.start.delivery-limit;
         each-node = λ p l. node-facts p (rw (node-count-of ring) at l);
         each-channel = λ k l. channel-facts k (rw (channel-count-of ring) at l);
         at-start = at-start;
       }
 
-  pub fits-sound : Whole ring.head → sound_ring ring ≡ true
-  fits-sound whole =
-      is-sound-ring ring (hold-is ring whole f.counts.spare-zero σ (held ring f)) (facts-sound ring_limits σ (facts whole))
+  pub fits-sound : sound_ring ring ≡ true
+  fits-sound =
+      is-sound-ring ring (hold-is ring f.nodes f.channels f.counts.spare-zero σ (held ring f)) (facts-sound ring_limits σ facts)

@@ -1,18 +1,18 @@
 -- The two tests of a record's bytes (specs/Fits, `BytesFit`): a good record is written back as its bytes, and zeros are what is laid
 -- out where there is none.
-use Prim.Native.Nat.{ℕ, zero, suc, ◌+◌, ◌*◌}
+use Prim.Native.Nat.{ℕ, zero, suc, ◌-◌, ◌*◌, ◌<◌}
 use mathlib.Core.Path.{◌≡◌, refl, sym, ap, ◌∙◌}
 use mathlib.Core.Bool.{Bool, true, false, ◌&&◌, false≢true}
-use mathlib.Core.List.{List, [], ◌∷◌}
+use mathlib.Core.List.{List, [], ◌∷◌, ◌++◌}
 use native.Mathlib.Omega.{arith}
-use lib.ListN.{length, take, drop}
-use lib.Seq.{take_all, drop-drop}
+use lib.ListN.{length, length-append}
+use lib.Seq.{take_all}
 use borrow.Author.Tests.{eqb-true, eq-eqb}
 use Rattle.batch.specs.Good.{every, is_zero, good_record}
 use Rattle.wire.specs.Bytes.{Bytes}
 use Rattle.wire.specs.Record.{record_length, record_bytes, record_in}
 use Rattle.wire.proofs.Record.{record-writes-back}
-use Rattle.network.specs.Layout.{padded, row}
+use Rattle.network.specs.Layout.{padded}
 use Rattle.network.proofs.Ground.Splits.{and_left, and_right, and_both}
 use Rattle.network.proofs.Memory.Rows.{padded-whole}
 use Rattle.messages.specs.Decides.{Decides}
@@ -35,24 +35,39 @@ and-associates : (a b c : Bool) → ((a && b) && c) ≡ (a && (b && c))
 and-associates true b c = refl
 and-associates false b c = refl
 
-every-cut : (k : ℕ) (xs : List ℕ) → (every is_zero (take k xs) && every is_zero (drop k xs)) ≡ every is_zero xs
-every-cut zero xs = refl
-every-cut (suc k) [] = refl
-every-cut (suc k) (x ∷ xs) =
-    and-associates (is_zero x) (every is_zero (take k xs)) (every is_zero (drop k xs)) ∙ ap (λ rest. is_zero x && rest) (every-cut k xs)
+every-append : (xs ys : List ℕ) → every is_zero (xs ++ ys) ≡ (every is_zero xs && every is_zero ys)
+every-append [] ys = refl
+every-append (x ∷ xs) ys =
+    ap (λ rest. is_zero x && rest) (every-append xs ys) ∙ sym (and-associates (is_zero x) (every is_zero xs) (every is_zero ys))
 
--- a word more: where its cells are zero, the rest decides
-module _ (w : ℕ) (xs : List ℕ) (word : ℕ) (before : every is_zero (drop (w * word) xs) ≡ every is_zero xs) where
-  parted : every is_zero xs ≡ (every is_zero (row w xs word) && every is_zero (drop (w * word + w) xs))
-  unfolding row
-  parted =
-      sym before ∙ sym (every-cut w (drop (w * word) xs))
-      ∙ ap (λ rest. every is_zero (take w (drop (w * word) xs)) && every is_zero rest) (drop-drop w (w * word) xs)
+empty : (xs : List ℕ) → length xs ≡ 0 → true ≡ every is_zero xs
+empty [] e = refl
+empty (x ∷ xs) e = absurd (omega arith)
 
-  pub word-passed : every is_zero (row w xs word) ≡ true → every is_zero (drop (w * (word + 1)) xs) ≡ every is_zero xs
-  word-passed e =
-      let next : w * (word + 1) ≡ w * word + w = omega arith in
-      rw next (sym (parted ∙ rw e))
+-- the words of eight cells that are to come: they are zero exactly when all cells are
+pub record ToCome (cells rest : List ℕ) (size : ℕ) : Type 0 where
+  pub eight : size ≡ 8
+  pub whole : (words : ℕ) × (length rest ≡ 8 * words)
+  pub same : every is_zero rest ≡ every is_zero cells
+
+module _ {cells rest : List ℕ} {size : ℕ} (t : ToCome cells rest size) where
+  module _ (word more : List ℕ) (first : rest ≡ word ++ more) where
+    split : every is_zero cells ≡ (every is_zero word && every is_zero more)
+    split = sym t.same ∙ ap (every is_zero) first ∙ every-append word more
+
+    pub word-stops : every is_zero word ≡ false → false ≡ every is_zero cells
+    word-stops e = sym (split ∙ rw e refl)
+
+    pub word-passed : {after : ℕ} → length word ≡ size → after ≡ size → every is_zero word ≡ true → ToCome cells more after
+    word-passed long e none =
+        record {
+          eight = e ∙ t.eight;
+          whole = (t.whole.0 - 1, omega (arith, t.whole.1, ap length first, length-append word more, t.eight));
+          same = sym (split ∙ rw none refl);
+        }
+
+  pub none-left : length rest < size → true ≡ every is_zero cells
+  none-left few = empty rest (omega (arith, t.whole.1, t.eight)) ∙ t.same
 
 -- the two tests of a record
 

@@ -15,8 +15,9 @@ use Rattle.network.specs.Layout.{node_room, channel_room, row, phase_code, offer
 use Rattle.network.proofs.Ground.Splits.{by-test, by_less, both_ways}
 use Rattle.network.proofs.Ground.Tests.{reads}
 use Rattle.network.proofs.Ground.Counting.{one-most}
+use Rattle.network.proofs.Memory.Rows.{length-tabulate}
 use Rattle.network.proofs.Memory.Held.{HeldChannel, no-node, no-channel, SoundRing}
-use Rattle.soundness.specs.Fits.{NodeFits, ChannelFits, CountsFit, RecordsFit, StartFits}
+use Rattle.soundness.specs.Fits.{NodeFits, NodesFit, ChannelFits, ChannelsFit, CountsFit, RecordsFit, StartFits}
 use Rattle.messages.proofs.Zeros.{rows-beyond}
 use Rattle.soundness.proofs.Codes.{code-most, code-ready, flag-most, flag-below, offer-stands, carried-stands}
 use Rattle.soundness.proofs.Queues.{length-occupied}
@@ -36,7 +37,7 @@ module _ (ring : Ring) (s : SoundRing ring) where
   abbrev σ : Network
   σ = view ring
 
-  pub counts-fit : CountsFit ring.head.started (nodes ring) (channels ring) ring.head.spare
+  pub counts-fit : CountsFit ring.head
   unfolding hold hold_head
   counts-fit =
       record {
@@ -67,7 +68,7 @@ module _ (ring : Ring) (s : SoundRing ring) where
       let parts = simp reads at (sound-before off) in
       record { at_rest = parts.0.0; unmarked = parts.0.1; none-delivered = parts.1 }
 
-  pub start_fits : StartFits ring.head.started (nodes ring) (channels ring) ring.head.deliveries ring.head.capacity
+  pub start_fits : StartFits ring.head
   unfolding sound_after
   start_fits =
       record {
@@ -76,11 +77,12 @@ module _ (ring : Ring) (s : SoundRing ring) where
             let slots = slots-of ring σ s.holds s.facts.node-limit in
             omega (arith, parts.0.0, parts.0.1, parts.1, node-count-of ring, channel-count-of ring);
         before-start = λ d. s.holds.deliveries ∙ (before (ne_eqb _ 1 d)).none-delivered;
+        delivery-limit = omega (arith, s.holds.deliveries, s.facts.delivery-limit);
       }
 
   -- nodes and channels of the ring, in memory and as they are read off
   module _ (p : ℕ) (l : p < node_room) where
-    pub node-fits :
+    node-fits :
         NodeFits (ltb p (nodes ring)) (begun ring) (get_or ring.head.capacity p 0) (get_or ring.head.used p 0)
         (get_or ring.head.waiting p 0) (get_or ring.head.marks p 0)
     node-fits =
@@ -109,7 +111,7 @@ module _ (ring : Ring) (s : SoundRing ring) where
         rw (le-ltb p (nodes ring) past) (rw e at h.capacity, rw e at h.used, rw e at h.waiting, rw e at h.mark))
 
   module _ (k : ℕ) (l : k < channel_room) where
-    pub channel-fits :
+    channel-fits :
         ChannelFits (ltb k (channels ring)) (begun ring) (nodes ring) (get_or ring.head.senders k 0) (get_or ring.head.receivers k 0)
         (get_or ring.head.phases k 0) (get_or ring.head.offered k 0)
     channel-fits =
@@ -137,7 +139,29 @@ module _ (ring : Ring) (s : SoundRing ring) where
         let e = no-channel σ k (rw (channel-count-of ring) past) in
         rw (le-ltb k (channels ring) past) (rw e at h.sender, rw e at h.receiver, rw e at h.phase, rw e at h.offered))
 
-  pub records-fit : RecordsFit (channels ring) ring.head.phases ring.head.offered ring.offers ring.carried
+  pub nodes-fit : NodesFit ring.head
+  unfolding hold hold_head
+  nodes-fit =
+      record {
+        capacity-whole = ap (λ r. length r.head.capacity) (sym s.laid-out) ∙ length-tabulate node_room _;
+        used-whole = ap (λ r. length r.head.used) (sym s.laid-out) ∙ length-tabulate node_room _;
+        waiting-whole = ap (λ r. length r.head.waiting) (sym s.laid-out) ∙ length-tabulate node_room _;
+        marks-whole = ap (λ r. length r.head.marks) (sym s.laid-out) ∙ length-tabulate node_room _;
+        each = node-fits;
+      }
+
+  pub channels-fit : ChannelsFit ring.head
+  unfolding hold hold_head
+  channels-fit =
+      record {
+        senders-whole = ap (λ r. length r.head.senders) (sym s.laid-out) ∙ length-tabulate channel_room _;
+        receivers-whole = ap (λ r. length r.head.receivers) (sym s.laid-out) ∙ length-tabulate channel_room _;
+        phases-whole = ap (λ r. length r.head.phases) (sym s.laid-out) ∙ length-tabulate channel_room _;
+        offered-whole = ap (λ r. length r.head.offered) (sym s.laid-out) ∙ length-tabulate channel_room _;
+        each = channel-fits;
+      }
+
+  pub records-fit : RecordsFit ring
   records-fit =
       let held_at : (k : ℕ) → k < channels ring → HeldChannel ring σ k =
       λ k l. s.holds.channels k (omega (arith, counts-fit.channels-within)) in

@@ -4,17 +4,16 @@ use Prim.Native.Nat.{ℕ, ◌≤◌, ◌<◌}
 use mathlib.Core.Path.{◌≡◌, sym, ◌∙◌}
 use mathlib.Core.Bool.{Bool}
 use lib.Dec.{eqb}
-use lib.ListN.{length, get_or}
+use lib.ListN.{get_or}
 use Rattle.wire.specs.Record.{record_length}
 use Rattle.network.specs.declared.Ring.{Ring}
-use Rattle.network.specs.declared.Head.{Head}
 use Rattle.network.specs.Counting.{sum}
 use Rattle.network.specs.Network.{Network, node_no, channel_no, count_of_nodes, count_of_channels, slot_count, no_node, no_channel, node, channel}
-use Rattle.network.specs.Sound.{last_count}
 use Rattle.network.specs.Layout.{node_room, channel_room, row_length, view_node, view_channel, view, hold_head, hold}
 use Rattle.network.proofs.Memory.Rows.{length-tabulate, get_d_tabulate, tabulate-is, rows_is}
 use Rattle.network.proofs.Ground.Counting.{sum_same, sum-beyond}
 use Rattle.network.proofs.Memory.Held.{Held, no-node}
+use Rattle.soundness.specs.Fits.{NodesFit, ChannelsFit}
 
 -- the counts in the head, and whether the ring has started
 abbrev pub nodes : Ring → ℕ
@@ -25,18 +24,6 @@ channels ring = ring.head.channel_count
 
 abbrev pub begun : Ring → Bool
 begun ring = eqb ring.head.started 1
-
--- what the types say of the head of any ring
-pub record Whole (head : Head) : Type 0 where
-  pub capacity : length head.capacity ≡ node_room
-  pub used : length head.used ≡ node_room
-  pub waiting : length head.waiting ≡ node_room
-  pub marks : length head.marks ≡ node_room
-  pub senders : length head.senders ≡ channel_room
-  pub receivers : length head.receivers ≡ channel_room
-  pub phases : length head.phases ≡ channel_room
-  pub offered : length head.offered ≡ channel_room
-  pub deliveries : head.deliveries ≤ last_count
 
 module _ (ring : Ring) where
   pub node-count-of : count_of_nodes (view ring) ≡ ring.head.node_count
@@ -55,7 +42,8 @@ module _ (ring : Ring) where
   unfolding view
   channel-of k l = get_d_tabulate ring.head.channel_count (view_channel ring) k no_channel l
 
-module _ (ring : Ring) (whole : Whole ring.head) (spare : ring.head.spare ≡ 0) (σ : Network) (h : Held ring σ) where
+module _ (ring : Ring) (nodes-fit : NodesFit ring.head) (channels-fit : ChannelsFit ring.head) (spare : ring.head.spare ≡ 0) (σ : Network)
+    (h : Held ring σ) where
   held-head : hold_head σ ≡ ring.head
   unfolding hold_head
   held-head =
@@ -66,14 +54,14 @@ module _ (ring : Ring) (whole : Whole ring.head) (spare : ring.head.spare ≡ 0)
         node_count = sym h.node-count i;
         channel_count = sym h.channel-count i;
         spare = sym spare i;
-        capacity = tabulate-is node_room _ 0 ring.head.capacity whole.capacity (λ p l. sym (h.nodes p l).capacity) i;
-        used = tabulate-is node_room _ 0 ring.head.used whole.used (λ p l. sym (h.nodes p l).used) i;
-        waiting = tabulate-is node_room _ 0 ring.head.waiting whole.waiting (λ p l. sym (h.nodes p l).waiting) i;
-        marks = tabulate-is node_room _ 0 ring.head.marks whole.marks (λ p l. sym (h.nodes p l).mark) i;
-        senders = tabulate-is channel_room _ 0 ring.head.senders whole.senders (λ k l. sym (h.channels k l).sender) i;
-        receivers = tabulate-is channel_room _ 0 ring.head.receivers whole.receivers (λ k l. sym (h.channels k l).receiver) i;
-        phases = tabulate-is channel_room _ 0 ring.head.phases whole.phases (λ k l. sym (h.channels k l).phase) i;
-        offered = tabulate-is channel_room _ 0 ring.head.offered whole.offered (λ k l. sym (h.channels k l).offered) i;
+        capacity = tabulate-is node_room _ 0 ring.head.capacity nodes-fit.capacity-whole (λ p l. sym (h.nodes p l).capacity) i;
+        used = tabulate-is node_room _ 0 ring.head.used nodes-fit.used-whole (λ p l. sym (h.nodes p l).used) i;
+        waiting = tabulate-is node_room _ 0 ring.head.waiting nodes-fit.waiting-whole (λ p l. sym (h.nodes p l).waiting) i;
+        marks = tabulate-is node_room _ 0 ring.head.marks nodes-fit.marks-whole (λ p l. sym (h.nodes p l).mark) i;
+        senders = tabulate-is channel_room _ 0 ring.head.senders channels-fit.senders-whole (λ k l. sym (h.channels k l).sender) i;
+        receivers = tabulate-is channel_room _ 0 ring.head.receivers channels-fit.receivers-whole (λ k l. sym (h.channels k l).receiver) i;
+        phases = tabulate-is channel_room _ 0 ring.head.phases channels-fit.phases-whole (λ k l. sym (h.channels k l).phase) i;
+        offered = tabulate-is channel_room _ 0 ring.head.offered channels-fit.offered-whole (λ k l. sym (h.channels k l).offered) i;
       }
 
   pub hold-is : hold σ ≡ ring

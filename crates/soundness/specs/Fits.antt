@@ -4,17 +4,19 @@
 use Rattle.std.specs.Prelude.{ℕ, ◌*◌, ◌<◌, ◌≤◌, ◌≡◌, ◌≢◌, Bool, true, false, cond, List, [], eqb, ltb, length, get_or, drop}
 use Rattle.batch.specs.Good.{good_record}
 use Rattle.wire.specs.Record.{record_length, record_bytes, record_in}
+use Rattle.network.specs.declared.Head.{Head}
 use Rattle.network.specs.declared.Ring.{Ring}
+use Rattle.network.specs.Sound.{last_count}
 use Rattle.network.specs.Counting.{one, sum}
 use Rattle.network.specs.Layout.{ring_limits, node_room, channel_room, record_room, row, padded, resting_code, ready_code, answering_code}
 use Rattle.messages.specs.Messages.{Blank, MessagesFit}
 
 -- the counts are in range, and the byte of no use is zero
-pub record CountsFit (started n c spare : ℕ) : Type 0 where
-  pub started-flag : started ≤ 1
-  pub nodes-within : n ≤ ring_limits.nodes
-  pub channels-within : c ≤ ring_limits.channels
-  pub spare-zero : spare ≡ 0
+pub record CountsFit (head : Head) : Type 0 where
+  pub started-flag : head.started ≤ 1
+  pub nodes-within : head.node_count ≤ ring_limits.nodes
+  pub channels-within : head.channel_count ≤ ring_limits.channels
+  pub spare-zero : head.spare ≡ 0
 
 -- what is used, and what isn't and so holds nothing
 abbrev pub Either : Bool → Type 0 → Type 0 → Type 0
@@ -36,6 +38,16 @@ abbrev pub NodeFits : Bool → Bool → ℕ → ℕ → ℕ → ℕ → Type 0
 NodeFits in_use started slots used waiting mark =
     Either in_use (UsedNode started slots used waiting mark) (Nothing slots used waiting mark)
 
+-- the arrays of the nodes, each with a cell for every node that there is room for
+pub record NodesFit (head : Head) : Type 0 where
+  pub capacity-whole : length head.capacity ≡ node_room
+  pub used-whole : length head.used ≡ node_room
+  pub waiting-whole : length head.waiting ≡ node_room
+  pub marks-whole : length head.marks ≡ node_room
+  pub each : (p : ℕ) → p < node_room →
+      NodeFits (ltb p head.node_count) (eqb head.started 1) (get_or head.capacity p 0) (get_or head.used p 0)
+      (get_or head.waiting p 0) (get_or head.marks p 0)
+
 -- A channel, by its two nodes and the codes of its phase and its offer.
 pub record PhaseFits (started : Bool) (phase offered : ℕ) : Type 0 where
   pub phase-known : phase ≤ answering_code
@@ -52,38 +64,45 @@ abbrev pub ChannelFits : Bool → Bool → ℕ → ℕ → ℕ → ℕ → ℕ �
 ChannelFits in_use started n sender receiver phase offered =
     Either in_use (UsedChannel started n sender receiver phase offered) (Nothing sender receiver phase offered)
 
+-- the arrays of the channels likewise
+pub record ChannelsFit (head : Head) : Type 0 where
+  pub senders-whole : length head.senders ≡ channel_room
+  pub receivers-whole : length head.receivers ≡ channel_room
+  pub phases-whole : length head.phases ≡ channel_room
+  pub offered-whole : length head.offered ≡ channel_room
+  pub each : (k : ℕ) → k < channel_room →
+      ChannelFits (ltb k head.channel_count) (eqb head.started 1) head.node_count (get_or head.senders k 0)
+      (get_or head.receivers k 0) (get_or head.phases k 0) (get_or head.offered k 0)
+
 -- The bytes of a record that is there are those of a good record, and where there is none they are zero.
 pub record BytesFit (there : Bool) (bytes : List ℕ) : Type 0 where
   pub good : there ≡ true → good_record (record_in bytes) ≡ true
   pub laid : bytes ≡ padded record_length (cond there (record_bytes (record_in bytes)) [])
 
-pub record RecordsFit (c : ℕ) (phases offered offers carried : List ℕ) : Type 0 where
-  pub offers-whole : length offers ≡ record_room
-  pub carried-whole : length carried ≡ record_room
-  pub offer-fits : (k : ℕ) → k < c → BytesFit (eqb (get_or offered k 0) 1) (row record_length offers k)
-  pub carried-fits : (k : ℕ) → k < c → BytesFit (eqb (get_or phases k 0) answering_code) (row record_length carried k)
-  pub offers-beyond : Blank (drop (record_length * c) offers)
-  pub carried-beyond : Blank (drop (record_length * c) carried)
+pub record RecordsFit (ring : Ring) : Type 0 where
+  pub offers-whole : length ring.offers ≡ record_room
+  pub carried-whole : length ring.carried ≡ record_room
+  pub offer-fits : (k : ℕ) → k < ring.head.channel_count →
+      BytesFit (eqb (get_or ring.head.offered k 0) 1) (row record_length ring.offers k)
+  pub carried-fits : (k : ℕ) → k < ring.head.channel_count →
+      BytesFit (eqb (get_or ring.head.phases k 0) answering_code) (row record_length ring.carried k)
+  pub offers-beyond : Blank (drop (record_length * ring.head.channel_count) ring.offers)
+  pub carried-beyond : Blank (drop (record_length * ring.head.channel_count) ring.carried)
 
--- started: n and c at least 1, b greater than c; not started: no deliveries, and the rest is said of each channel and node
-pub record StartFits (started n c deliveries : ℕ) (capacity : List ℕ) : Type 0 where
-  pub after-start : started ≡ 1 → (1 ≤ n) × (1 ≤ c) × (c < sum node_room (λ p. get_or capacity p 0))
-  pub before-start : started ≢ 1 → deliveries ≡ 0
+-- Started: n and c at least 1, b greater than c. Not started: no deliveries, and the rest is said of each channel and node. A count of
+-- deliveries is never past the last one.
+pub record StartFits (head : Head) : Type 0 where
+  pub after-start : head.started ≡ 1 →
+      (1 ≤ head.node_count) × (1 ≤ head.channel_count)
+      × (head.channel_count < sum node_room (λ p. get_or head.capacity p 0))
+  pub before-start : head.started ≢ 1 → head.deliveries ≡ 0
+  pub delivery-limit : head.deliveries ≤ last_count
 
 -- the whole ring
 pub record Fits (ring : Ring) : Type 0 where
-  pub counts : CountsFit ring.head.started ring.head.node_count ring.head.channel_count ring.head.spare
-  pub nodes : (p : ℕ) → p < node_room →
-      NodeFits (ltb p ring.head.node_count) (eqb ring.head.started 1) (get_or ring.head.capacity p 0)
-      (get_or ring.head.used p 0) (get_or ring.head.waiting p 0) (get_or ring.head.marks p 0)
-  pub channels : (k : ℕ) → k < channel_room →
-      ChannelFits (ltb k ring.head.channel_count) (eqb ring.head.started 1) ring.head.node_count
-      (get_or ring.head.senders k 0) (get_or ring.head.receivers k 0) (get_or ring.head.phases k 0)
-      (get_or ring.head.offered k 0)
-  pub records : RecordsFit ring.head.channel_count ring.head.phases ring.head.offered ring.offers ring.carried
-  pub messages :
-      MessagesFit ring.head.node_count ring.head.channel_count ring.head.used ring.head.waiting ring.head.phases
-      ring.head.senders ring.head.receivers ring.slots ring.lines
-  pub start :
-      StartFits ring.head.started ring.head.node_count ring.head.channel_count ring.head.deliveries
-      ring.head.capacity
+  pub counts : CountsFit ring.head
+  pub nodes : NodesFit ring.head
+  pub channels : ChannelsFit ring.head
+  pub records : RecordsFit ring
+  pub messages : MessagesFit ring
+  pub start : StartFits ring.head

@@ -3,7 +3,8 @@
 // that holds of exactly the sound rings. The messages are judged in the crate `messages`.
 //
 // Every call pays for this test. So its loops go over all their cells and leave only at the end, counting the wrong ones: the compiler
-// then tests 16 cells at once. Only the pass over the messages stops where it meets a wrong one.
+// then tests 16 cells at once. The passes over messages and over the words of a blank record stop where they meet a wrong one. Loops that look
+// at several arrays of the head go by number, as a zip of so many would be no plainer.
 #![tactic(auto)]
 
 mod channels;
@@ -12,101 +13,53 @@ mod records;
 
 ghost use Rattle.std.specs.Prelude.{◌≡◌, get_or};
 ghost use Rattle.network.specs.Counting.{sum};
-ghost use Rattle.network.specs.Layout.{node_room, ring_in, sound_ring};
+ghost use Rattle.network.specs.Layout.{node_room, sound_ring};
 ghost use Rattle.messages.specs.Decides.{Decides};
 ghost use Rattle.soundness.specs.Fits.{CountsFit, StartFits};
 
 use messages;
-use network::{ByNode, Cells, Head, NODES, Records, Ring};
+use network::{ByNode, Head, Ring};
 
 // The counts are in range, and the byte of no use is zero.
-fn counts_fit(started: u8, node_count: u8, channel_count: u8, spare: u8) -> bool
-    ensures { Decides result (CountsFit started node_count channel_count spare) }
+fn counts_fit(head: &Head) -> bool
+    ensures { Decides result (CountsFit head.now) }
 {
-    if 1 < started {
-        return false;
-    }
-    if Ring::MOST_NODES < node_count {
-        return false;
-    }
-    if Ring::MOST_CHANNELS < channel_count {
-        return false;
-    }
-    spare == 0
+    head.started <= 1
+        && head.node_count <= Ring::MOST_NODES
+        && head.channel_count <= Ring::MOST_CHANNELS
+        && head.spare == 0
 }
 
 // The slots of all nodes. A node that there is not has none.
-pub fn slot_count(capacity: ByNode) -> usize
-    ensures { result ≡ sum node_room (λ p. get_or capacity p 0) }
+pub fn slot_count(capacity: &ByNode) -> usize
+    ensures { result ≡ sum node_room (λ p. get_or capacity.now p 0) }
 {
-    let mut total: usize = 0;
-    let mut p = 0;
-    while p < NODES {
-        total += capacity[p] as usize;
-        p += 1;
-    }
-    total
+    capacity.iter().map(|slots| usize::from(*slots)).sum()
 }
 
 // Started: n and c at least 1 and b greater than c. Not started: no deliveries; the rest is said of each channel and node.
-fn start_fits(
-    started: u8,
-    node_count: u8,
-    channel_count: u8,
-    deliveries: u32,
-    capacity: ByNode,
-) -> bool
-    ensures { Decides result (StartFits started node_count channel_count deliveries capacity) }
+fn start_fits(head: &Head) -> bool
+    ensures { Decides result (StartFits head.now) }
 {
-    if started != 1 {
+    // Read in both cases: that the count is one that a ring can have is part of what is decided.
+    let deliveries = head.deliveries;
+    if head.started != 1 {
         return deliveries == 0;
     }
-    if node_count == 0 {
-        return false;
-    }
-    if channel_count == 0 {
-        return false;
-    }
-    (channel_count as usize) < slot_count(capacity)
+    0 < head.node_count
+        && 0 < head.channel_count
+        && (head.channel_count as usize) < slot_count(&head.capacity)
 }
 
 // Whether the ring is sound.
-pub fn is_sound(
-    head: Head,
-    slots: &Cells,
-    lines: &Cells,
-    offers: &Records,
-    carried: &Records,
-) -> bool
-    ensures { result ≡ sound_ring (ring_in head slots.now lines.now offers.now carried.now) }
+pub fn is_sound(ring: &Ring) -> bool
+    ensures { result ≡ sound_ring ring.now }
 {
-    let n = head.node_count;
-    let c = head.channel_count;
-    if !counts_fit(head.started, n, c, head.spare) {
-        return false;
-    }
-    let started = head.started == 1;
-    let capacity = head.capacity;
-    let used = head.used;
-    let waiting = head.waiting;
-    let marks = head.marks;
-    if !nodes::nodes_fit(started, n, &capacity, &used, &waiting, &marks) {
-        return false;
-    }
-    let senders = head.senders;
-    let receivers = head.receivers;
-    let phases = head.phases;
-    let offered = head.offered;
-    if !channels::channels_fit(started, n, c, &senders, &receivers, &phases, &offered) {
-        return false;
-    }
-    if !records::records_fit(c, &phases, &offered, offers, carried) {
-        return false;
-    }
-    if !messages::messages_fit(
-        n, c, &used, &waiting, &phases, &senders, &receivers, slots, lines,
-    ) {
-        return false;
-    }
-    start_fits(head.started, n, c, head.deliveries, capacity)
+    let head = &ring.head;
+    counts_fit(head)
+        && nodes::nodes_fit(head)
+        && channels::channels_fit(head)
+        && records::records_fit(ring)
+        && messages::messages_fit(ring)
+        && start_fits(head)
 }

@@ -8,28 +8,22 @@ ghost use Rattle.soundness.specs.Fits.{BytesFit, RecordsFit};
 
 use batch;
 use messages::blank;
-use network::{ByChannel, Records, Ring};
+use network::{ByChannel, Ring};
 use wire;
 use wire::RECORD_LENGTH;
 
 // The bytes of a record, taken eight at a time.
 const WORD: usize = 8;
 
-const WORDS: usize = RECORD_LENGTH / WORD;
-
 // Whether all bytes of a record are zero, eight at a time: the compiler makes one comparison of the eight.
 fn record_blank(bytes: &[u8]) -> bool
     requires { length bytes.now ≡ record_length }
     ensures { result ≡ every is_zero bytes.now }
 {
-    let mut word = 0;
-    while word < WORDS {
-        let from = WORD * word;
-        let to = from + WORD;
-        if !batch::all_zero(&bytes[from..to]) {
+    for word in bytes.chunks_exact(WORD) {
+        if !batch::all_zero(word) {
             return false;
         }
-        word += 1;
     }
     true
 }
@@ -52,36 +46,24 @@ fn each_fits(count: usize, states: &ByChannel, with: u8, records: &[u8]) -> bool
         BytesFit (eqb (get_or states.now k 0) «with») (row record_length records.now k)) }
 {
     let mut wrong: u8 = 0;
-    let mut k = 0;
-    while k < count {
+    for k in 0..count {
         let from = RECORD_LENGTH * k;
         let to = from + RECORD_LENGTH;
         if !record_fits(states[k] == with, &records[from..to]) {
             wrong += 1;
         }
-        k += 1;
     }
     wrong == 0
 }
 
 // All records.
-pub fn records_fit(
-    channel_count: u8,
-    phases: &ByChannel,
-    offered: &ByChannel,
-    offers: &Records,
-    carried: &Records,
-) -> bool
-    requires { channel_count ≤ channel_room }
-    ensures { Decides result (RecordsFit channel_count phases.now offered.now offers.now
-        carried.now) }
+pub fn records_fit(ring: &Ring) -> bool
+    requires { ring.now.head.channel_count ≤ channel_room }
+    ensures { Decides result (RecordsFit ring.now) }
 {
-    let count = channel_count as usize;
-    if !blank::from(RECORD_LENGTH * count, offers, carried) {
-        return false;
-    }
-    if !each_fits(count, offered, 1, offers) {
-        return false;
-    }
-    each_fits(count, phases, Ring::ANSWERING, carried)
+    let head = &ring.head;
+    let count = head.channel_count as usize;
+    blank::from(RECORD_LENGTH * count, &ring.offers, &ring.carried)
+        && each_fits(count, &head.offered, 1, &ring.offers)
+        && each_fits(count, &head.phases, Ring::ANSWERING, &ring.carried)
 }

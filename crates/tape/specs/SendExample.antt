@@ -8,8 +8,7 @@ use Rattle.numbers.specs.Numbers.{channel_no}
 use Rattle.command.specs.declared.Action.TheVariants.{Send}
 use Rattle.command.specs.declared.Command.{Command}
 use Rattle.tape.specs.Table.{bytes_of}
-use Rattle.tape.specs.Tape.{read_at}
-use Rattle.tape.specs.RoundTrip.{found}
+use Rattle.tape.specs.Tape.{found, read_at}
 
 -- channel 0, batch 7, vessel 3, 612 tenths or hundredths of a degree, the name `A1`
 abbrev pub sent_fields : Fields

@@ -3,7 +3,7 @@
 --
 -- What a new command of a known shape costs: here its row and its line of `parts_of`; in the code the variant of `Action` and a line each of
 -- `row_of` and `parts_of`; in proofs/, where all is computed, a line of `made` and a part of `all_fair` (CommandTable.antt).
-use Rattle.std.specs.Prelude.{ℕ, ◌≡◌, cond, List, [], ◌∷◌, eqb, drop}
+use Rattle.std.specs.Prelude.{ℕ, ◌≡◌, cond, List, [], ◌∷◌, eqb, drop, Option, Some, None, option_map, unwrap_or}
 use Rattle.batch.specs.declared.sending.Scale.{Scale}
 use Rattle.batch.specs.declared.sending.Scale.TheVariants.{Tenths, Hundredths}
 use Rattle.numbers.specs.Numbers.{node_no, channel_no}
@@ -13,7 +13,7 @@ use Rattle.command.specs.declared.Command.{Command}
 use Rattle.tape.specs.declared.Parts.{Parts}
 use Rattle.tape.specs.declared.Row as found
 use Rattle.tape.specs.declared.Shape.{Shape}
-use Rattle.tape.specs.declared.Shape.TheVariants.{Unknown, Bare, Byte, TwoBytes, ByteAndFields}
+use Rattle.tape.specs.declared.Shape.TheVariants.{Bare, Byte, TwoBytes, ByteAndFields}
 use Rattle.wire.specs.Bytes.{number_at}
 use Rattle.wire.specs.Record.{fields_in}
 use Rattle.tape.specs.Shape.{width_of, fields_with, bytes_with}
@@ -59,20 +59,17 @@ parts_of (Enter node) = parts 0x22 node.0 0
 parts_of (Move node) = parts 0x23 node.0 0
 parts_of (Withdraw channel) = parts 0x24 channel.0 0
 
--- the row of a byte that no command has, and the row of a command byte
-abbrev pub no_row : ℕ → Row
-no_row code = row code Unknown (λ a b. Start)
+-- the row of a command byte: none where no command has it
+unfoldable pub find : ℕ → List Row → Option Row
+find code [] = None
+find code (r ∷ rows) = cond (eqb code r.code) (Some r) (find code rows)
 
-unfoldable pub find : ℕ → List Row → Row
-find code [] = no_row code
-find code (r ∷ rows) = cond (eqb code r.code) r (find code rows)
-
-unfoldable pub row_of : ℕ → Row
+unfoldable pub row_of : ℕ → Option Row
 row_of code = find code commands
 
 -- a row with these operands, as the code has it
-abbrev pub row_with : Row → ℕ → ℕ → found.Row
-row_with r first second = record { shape = r.shape; action = r.action first second }
+abbrev pub row_with : Option Row → ℕ → ℕ → Option found.Row
+row_with o first second = option_map (λ (r : Row). record { shape = r.shape; action = r.action first second }) o
 
 -- the command that bytes which begin with the row's command byte stand for
 unfoldable pub command_in : Row → List ℕ → Command
@@ -81,10 +78,11 @@ command_in r b = record {
   fields = fields_with r.shape (fields_in (drop 2 b));
 }
 
--- the shape of a command, how many bytes it takes, and those bytes
+-- the shape of an action's command is its row's. Each action has a row (`made_again` of proofs/CommandTable.antt), so `Bare` stands in for none
 abbrev pub shape_of : Action → Shape
-shape_of a = (row_of (parts_of a).code).shape
+shape_of a = unwrap_or (option_map (λ (r : Row). r.shape) (row_of (parts_of a).code)) Bare
 
+-- how many bytes a command takes, and those bytes
 unfoldable pub width : Command → ℕ
 width c = width_of (shape_of c.action)
 

@@ -4,35 +4,53 @@ use Prim.Native.Nat.{ℕ, ◌+◌, ◌<◌}
 use mathlib.Core.Path.{◌≡◌, refl, sym, ap, subst, ◌∙◌}
 use mathlib.Core.Logic.{◌≢◌}
 use mathlib.Core.Bool.{false}
-use mathlib.Core.List.{List}
 use mathlib.Core.Option.{none}
 use borrow.Author.Tests.{lt-ltb}
 use Rattle.refusal.specs.declared.Refusal.{Refusal}
+use Rattle.refusal.specs.Number.{Verdict}
 use Rattle.refusal.specs.declared.Refusal.TheVariants.{NotResting, AlreadyOffered}
-use Rattle.refusal.specs.declared.Verdict.TheVariants.{Passed, Refused}
+use Rattle.std.specs.Prelude.{Ok, Err}
 use Rattle.batch.specs.declared.BatchRecord.{BatchRecord}
+use Rattle.batch.specs.declared.sending.Fields.{Fields}
+use Rattle.batch.specs.declared.sending.Scale.{Scale}
 use Rattle.batch.specs.Good.{send_verdict}
+use Rattle.batch.specs.Sending.{record_from, sent_as, sent_from}
 use Rattle.batch.proofs.Good.{sent-exactly}
 use Rattle.wire.specs.Record.{RecordFits}
 use Rattle.wire.proofs.Good.{good-fits}
-use Rattle.network.specs.declared.Head.{Head}
-use Rattle.network.specs.declared.HeadStep.{HeadStep}
 use Rattle.network.specs.declared.Ring.{Ring}
-use Rattle.network.specs.Answers.{step_of}
 use Rattle.network.specs.Network.{Network, channel_no, resting, ready, count_of_nodes, channel}
 use Rattle.network.specs.Sound.{is_resting, is_ready, absent}
 use Rattle.network.specs.Calls.{done, refused, accepted, unless, request, respond, offer_to, if_good}
 use Rattle.network.specs.Calls
 use Rattle.network.specs.Runs
-use Rattle.network.specs.Layout.{view, held_outcome, call_ring, step_in}
+use Rattle.network.specs.Layout.{view, held_outcome, call_ring}
 use Rattle.network.proofs.Memory.Held.{Fits}
-use Rattle.updates.specs.Flat.{appended, waiting_at, receiver_at, phase_at, offered_at, joined_head, phased_head, joined, phased, offered, responded}
+use Rattle.updates.specs.Flat.{receiver_at, phase_at, offered_at, phased_head, joined, phased, offered, responded}
 use Rattle.updates.specs.Known.{CanJoin, CanRespond, AtChannel}
-use Rattle.updates.specs.Answered.{done_step}
-use Rattle.updates.proofs.Openings.{sound-called, accepts, accepted-fits}
+use Rattle.updates.proofs.Openings.{sound-called, accepted-fits}
 use Rattle.updates.proofs.FlatLaws.{offered-held}
 use Rattle.updates.proofs.Messages.{asked-held, asked-room, Answerable, can-respond, responded-held}
 use Rattle.updates.proofs.Reading.{channel-known, channel-there, channel-numbers, channel-running, resting-code, busy-code, ready-code, unready-code, none-flag, some-flag}
+
+-- what send makes of a command's fields, split: the refusal is the record's, or the record is good and goes out as it is
+
+refusal-split : (x : BatchRecord) (v : Verdict) {r : Refusal} → sent_as x v ≡ Err r → v ≡ Err r
+refusal-split x (Ok u) e = cc
+refusal-split x (Err q) {r} e = let same : q ≡ r = cc in ap Err same
+
+record-split : (x : BatchRecord) (v : Verdict) {y : BatchRecord} → sent_as x v ≡ Ok y → (v ≡ Ok tt) × (y ≡ x)
+record-split x (Ok tt) e = (refl, cc)
+record-split x (Err r) e = cc
+
+module _ (s : Scale) (f : Fields) where
+  pub bad-fields : {r : Refusal} → Err r ≡ sent_from s f → send_verdict (record_from s f) ≡ Err r
+  unfolding sent_from
+  bad-fields told = refusal-split (record_from s f) (send_verdict (record_from s f)) (sym told)
+
+  pub good-fields : {x : BatchRecord} → Ok x ≡ sent_from s f → (send_verdict (record_from s f) ≡ Ok tt) × (x ≡ record_from s f)
+  unfolding sent_from
+  good-fields told = record-split (record_from s f) (send_verdict (record_from s f)) (sym told)
 
 module _ {ring : Ring} {k : ℕ} (h : AtChannel ring k) where
   abbrev σ : Network
@@ -76,7 +94,7 @@ module _ {ring : Ring} {k : ℕ} (h : AtChannel ring k) where
         (asked-room σ fits k (channel-there h) there at_rest next_fits) in
         record { there = room.there; room = room.room }
 
-    receive-done : call_ring (Runs.receive (channel_no k)) ring
+    pub receive-done : call_ring (Runs.receive (channel_no k)) ring
         ≡ accepted done (joined (phased ring k 1) (receiver_at ring.head k) (k + 1))
     receive-done =
         sound-called (Runs.receive (channel_no k)) ring h.ok
@@ -84,14 +102,6 @@ module _ {ring : Ring} {k : ℕ} (h : AtChannel ring k) where
         ∙ ap (accepted done)
         (sym (asked-held σ fits k (channel-there h) there at_rest next_fits)
         ∙ ap (λ r. joined (phased r k 1) (receiver_at r.head k) (k + 1)) (channel-known h).laid-out)
-
-    -- the same of what the code made
-    pub request-made : {r : Head} {lines : List ℕ} {s : HeadStep} →
-        r ≡ joined_head (phased_head ring.head k 1) (receiver_at ring.head k) →
-        lines ≡ appended ring.lines (receiver_at ring.head k) (waiting_at ring.head (receiver_at ring.head k)) (k + 1) →
-        s ≡ done_step r →
-        step_in s ring.slots lines ring.offers ring.carried ≡ step_of ring (call_ring (Runs.receive (channel_no k)) ring)
-    request-made er el e = rw (e, er, el) (accepts ring receive-done refl)
 
   -- send
 
@@ -105,10 +115,10 @@ module _ {ring : Ring} {k : ℕ} (h : AtChannel ring k) where
     send-in-memory : call_ring (Runs.send (channel_no k) x) ring ≡ held_outcome (Calls.send (channel_no k) x σ)
     send-in-memory = sound-called (Runs.send (channel_no k) x) ring h.ok
 
-    pub send-bad : (r : Refusal) → send_verdict x ≡ Refused r → call_ring (Runs.send (channel_no k) x) ring ≡ refused r
+    pub send-bad : (r : Refusal) → send_verdict x ≡ Err r → call_ring (Runs.send (channel_no k) x) ring ≡ refused r
     send-bad r bad = send-in-memory ∙ ap held_outcome send-called ∙ rw bad
 
-    module _ (good : send_verdict x ≡ Passed) where
+    module _ (good : send_verdict x ≡ Ok tt) where
       x_fits : RecordFits x
       x_fits = good-fits x ((sent-exactly x).0 good).0
 

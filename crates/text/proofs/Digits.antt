@@ -1,18 +1,19 @@
--- Laws of `decimal`: one digit, or the digits of n / 10 and then the last one. All else, the three statements of specs/ and the number of
--- digits, follows by induction over that.
+-- Laws of `decimal`: one digit, or the digits of n / 10 and then the last one. The statements of specs/ about it follow by induction over
+-- that; that the library prints the same, from the library's laws of a printed number.
 use Prim.Native.Nat.{ℕ, zero, suc, ◌+◌, ◌-◌, ◌*◌, ◌/◌, ◌%◌, ◌^◌, ◌≤◌, ◌<◌}
 use mathlib.Core.Path.{◌≡◌, refl}
-use mathlib.Core.Bool.{true, false, true≢false}
 use mathlib.Core.Logic.{◌≢◌}
 use mathlib.Core.List.{List, [], ◌∷◌, ◌++◌}
 use native.Mathlib.Omega.{arith}
-use lib.IntN.{ℤ, pos, negsuc, nat_abs}
-use lib.Signed.{lt_z}
+use lib.IntN.{ℤ, pos, negsuc}
+use lib.Signed.{mag}
 use lib.ListN.{length, get_or, length-append, get_or-append}
 use lib.Seq.{get_or_at}
-use borrow.Author.Tests.{lt-ltb, le-ltb, ltb-true}
+use borrow.Author.Tests.{lt-ltb, le-ltb}
+use Rattle.std.specs.Fmt as fmt
+use Rattle.std.proofs.lemmas.Fmt.{AppendsLastDigit, decimal_from_appends, length-decimal-le_succ}
 use Rattle.numbers.proofs.Splits.{by_less}
-use Rattle.text.specs.Digits.{digit, digits, decimal, signed, read_on, ReadsBack, OnlyDigits, NoLeadingZero}
+use Rattle.text.specs.Digits.{digit, digits, decimal, signed, read_on, ReadsBack, OnlyDigits, NoLeadingZero, AsPrinted}
 
 -- enough fuel is enough
 same_digits : (f g n : ℕ) → n < f → n < g → digits f n ≡ digits g n
@@ -48,18 +49,11 @@ reads-back =
     by_digits (λ n. read_on 0 (decimal n) ≡ n) (λ n h. rw (decimal-one n h) (omega arith))
     λ n h p. rw (decimal-more n h, read-last 0 (decimal (n / 10)) (n % 10), p) (omega arith)
 
-pub length_more : (n : ℕ) → 10 ≤ n → length (decimal n) ≡ length (decimal (n / 10)) + 1
+length_more : (n : ℕ) → 10 ≤ n → length (decimal n) ≡ length (decimal (n / 10)) + 1
 length_more n h = rw (decimal-more n h) (length-append (decimal (n / 10)) _)
 
 some-digit : (n : ℕ) → 0 < length (decimal n)
 some-digit n = by_less n 10 (λ h. rw (decimal-one n h) (omega arith)) λ h. omega (arith, length_more n h)
-
--- a number below 10 ^ k has at most k digits
-pub length-decimal : (k n : ℕ) → n < 10 ^ suc k → length (decimal n) ≤ suc k
-length-decimal zero n h = rw (decimal-one n (omega arith)) (omega arith)
-length-decimal (suc k) n h =
-    by_less n 10 (λ l. rw (decimal-one n l) (omega arith))
-    λ l. omega (arith, length_more n l, length-decimal k (n / 10) (omega arith))
 
 abbrev Digit : ℕ → Type 0
 Digit b = (0x30 ≤ b) × (b ≤ 0x39)
@@ -84,17 +78,19 @@ no-leading-zero = (
       λ n h p. rw (decimal-more n h, get_or-append (decimal (n / 10)) _ 0 0 (some-digit (n / 10))) λ k. p (omega arith),
 )
 
--- 32 bits have at most ten digits
-pub ten-digits : (n : ℕ) → n < 2 ^ 32 → length (decimal n) ≤ 10
-ten-digits n h = length-decimal 9 n (omega arith)
+-- each step of `digits` is the library's
+appends : AppendsLastDigit digits
+unfolding digits
+appends = record { one = λ k n h. rw (lt-ltb n 10 h) refl; more = λ k n h. rw (le-ltb n 10 h) refl }
 
--- by the sign: the digits after it are those of the magnitude
-pub signed_below : (z : ℤ) → lt_z z (pos 0) ≡ true → signed z ≡ 0x2D ∷ decimal (nat_abs z)
-unfolding signed
-signed_below (pos n) e = let h : n < 0 = ltb-true n 0 e in let no : ⊥ = omega arith in absurd no
-signed_below (negsuc n) e = refl
+pub decimal_printed : (n : ℕ) → n < 2 ^ 64 → decimal n ≡ fmt.decimal n
+unfolding decimal
+decimal_printed n h = decimal_from_appends digits appends (suc n) n h (omega (arith, length-decimal-le_succ n h))
 
-pub signed_above : (z : ℤ) → lt_z z (pos 0) ≡ false → signed z ≡ decimal (nat_abs z)
+pub signed_printed : (z : ℤ) → mag z < 2 ^ 63 → signed z ≡ fmt.signed_decimal z
 unfolding signed
-signed_above (pos n) e = refl
-signed_above (negsuc n) e = absurd (true≢false e)
+signed_printed (pos n) h = decimal_printed n (omega arith)
+signed_printed (negsuc n) h = rw (decimal_printed (suc n) (omega arith)) refl
+
+pub as-printed : AsPrinted
+as-printed = (decimal_printed, signed_printed)

@@ -1,6 +1,9 @@
 -- Numbers as the report prints them, in bytes of ASCII: decimal, two small hexadecimal digits, and decimal with a sign. Three statements
--- pin `decimal` down: its digits read back are the number, each is a digit, and none leads with a needless 0.
-use Rattle.std.specs.Prelude.{ℕ, zero, suc, ◌+◌, ◌-◌, ◌*◌, ◌/◌, ◌%◌, ◌≤◌, ◌<◌, ◌≡◌, ◌≢◌, cond, List, [], ◌∷◌, ◌++◌, ltb, ℤ, pos, negsuc, length, get_or}
+-- pin `decimal` down: its digits read back are the number, each is a digit, and none leads with a needless 0. A fourth says that the
+-- library prints the same.
+use Rattle.std.specs.Prelude.{ℕ, zero, suc, ◌+◌, ◌-◌, ◌*◌, ◌/◌, ◌%◌, ◌^◌, ◌≤◌, ◌<◌, ◌≡◌, ◌≢◌, cond, List, [], ◌∷◌, ◌++◌, ltb, ℤ, pos, negsuc, length, get_or}
+use lib.Signed.{mag}
+use Rattle.std.specs.Fmt as fmt
 
 -- the byte of a decimal digit: 0 is hexadecimal 30
 abbrev pub digit : ℕ → ℕ
@@ -43,3 +46,8 @@ OnlyDigits = (n i : ℕ) → i < length (decimal n) → (0x30 ≤ get_or (decima
 -- 0 is one digit, and any other number begins with a digit that is not 0
 abbrev pub NoLeadingZero : Type 0
 NoLeadingZero = (decimal 0 ≡ 0x30 ∷ []) × ((n : ℕ) → n ≢ 0 → get_or (decimal n) 0 0 ≢ 0x30)
+
+-- what the library prints for `{}` of a number of 64 bits, without a sign and with one
+abbrev pub AsPrinted : Type 0
+AsPrinted =
+    ((n : ℕ) → n < 2 ^ 64 → decimal n ≡ fmt.decimal n) × ((z : ℤ) → mag z < 2 ^ 63 → signed z ≡ fmt.signed_decimal z)

@@ -1,118 +1,117 @@
-// A line while it is built: bytes put one after another into a lent text. Every function takes the place where it begins and
-// returns the place where it ends; it asks for the room that it needs, so none has to refuse.
+// A line while it is built: bytes put one after another, in the line itself. Each method says which bytes it appends and how many they
+// are at most; it asks for the room that it needs, so none has to refuse. `write!` is not used: the library says what it has written
+// where it succeeds, and not that it does, and a line is to be exact on every value.
 #![tactic(auto)]
 
-ghost use Rattle.std.specs.Prelude.{[], ◌∷◌, ◌≡◌, ◌+◌, ◌<◌, ◌≤◌, min, nat_abs, length, take};
-ghost use Rattle.text.specs.Digits.{decimal, hex_digit, hex2, signed};
-ghost use Rattle.text.specs.Fields.{space, field, name_field, laid};
+ghost use Rattle.std.specs.Prelude.{ℕ, List, [], ◌∷◌, ◌≡◌, ◌+◌, ◌<◌, ◌≤◌, length, take};
+ghost use Rattle.text.specs.Digits.{hex_digit, hex2};
+ghost use Rattle.text.specs.Fields.{space, name_field};
 ghost use Rattle.text.specs.Appends.{Appends};
 
-const SPACE: u8 = 0x20;
+use itoa::{Buffer, Integer};
+use std::marker::Model;
 
-const MINUS: u8 = 0x2D;
+const SPACE: u8 = b' ';
 
-pub fn push(text: &mut [u8], at: usize, byte: u8) -> usize
-    requires { at + 1 ≤ length text.old }
-    ensures { Appends text.old text.new at result (byte ∷ []) 1 }
-{
-    text[at] = byte;
-    at + 1
+// At most ROOM bytes. A contract sees the bytes that were put into it.
+#[derive(Drop)]
+pub struct Line<const ROOM: usize> {
+    bytes: [u8; ROOM],
+    length: usize,
 }
 
-// Several bytes. What stands after them is left as it was, so a whole line is put into the report by this too.
-pub fn push_all(text: &mut [u8], at: usize, bytes: &[u8]) -> usize
-    requires { at + length bytes.now ≤ length text.old }
-    ensures appends { Appends text.old text.new at result bytes.now (length bytes.now) }
-    ensures text_after { text.new ≡ laid text.old at bytes.now }
-{
-    let mut i = 0;
-    while i < bytes.len() {
-        text[at + i] = bytes[i];
-        i += 1;
+impl<const ROOM: usize> Model for Line<ROOM> {
+    ghost Value = { List ℕ };
+
+    ghost view = { λ line. take line.length line.bytes };
+
+    ghost invariant = { λ line. line.length ≤ ROOM };
+}
+
+impl<const ROOM: usize> Line<ROOM> {
+    // A line with nothing in it.
+    pub fn new() -> Line<ROOM>
+        ensures { result ≡ [] }
+    {
+        Line {
+            bytes: [0; ROOM],
+            length: 0,
+        }
     }
-    at + i
-}
 
-// A number in decimal: the digits above the last one, then the last. One of 32 bits has at most ten digits.
-pub fn push_decimal(text: &mut [u8], at: usize, n: u32) -> usize
-    requires { at + 10 ≤ length text.old }
-    ensures { Appends text.old text.new at result (decimal n) 10 }
-{
-    if n < 10 {
-        return push(text, at, b'0' + n as u8);
+    // What was put into it.
+    pub fn as_bytes(&self) -> &[u8]
+        ensures value { result.now ≡ self.now }
+        ensures within { length result.now ≤ ROOM }
+    {
+        &self.bytes[..self.length]
     }
-    let last = push_decimal(text, at, n / 10);
-    push(text, last, b'0' + (n % 10) as u8)
+
+    // One byte.
+    pub fn push(&mut self, byte: u8)
+        requires { length self.old + 1 ≤ ROOM }
+        ensures { Appends self.old self.new (byte ∷ []) 1 }
+    {
+        self.bytes[self.length] = byte;
+        self.length += 1;
+    }
+
+    // Several bytes.
+    pub fn push_all(&mut self, bytes: &[u8])
+        requires { length self.old + length bytes.now ≤ ROOM }
+        ensures { Appends self.old self.new bytes.now (length bytes.now) }
+    {
+        let end = self.length + bytes.len();
+        let room = &mut self.bytes[..];
+        room[self.length..end].copy_from_slice(bytes);
+        self.length = end;
+    }
+
+    // A number in decimal, with a minus where it is below 0.
+    pub fn push_number<N: Integer>(&mut self, n: N)
+        requires { length self.old + N.MAX_STR_LEN ≤ ROOM }
+        ensures { Appends self.old self.new (N.text n) N.MAX_STR_LEN }
+    {
+        let mut digits = Buffer::new();
+        self.push_all(digits.format(n).as_bytes());
+    }
+
+    // The same after a space.
+    pub fn push_field<N: Integer>(&mut self, n: N)
+        requires { length self.old + (1 + N.MAX_STR_LEN) ≤ ROOM }
+        ensures { Appends self.old self.new (space ∷ N.text n) (1 + N.MAX_STR_LEN) }
+    {
+        self.push(SPACE);
+        self.push_number(n);
+    }
+
+    // A byte in two hexadecimal digits, after a space.
+    #[tactic(auto, unfolding(crate::specs::Digits::hex2))]
+    pub fn push_hex(&mut self, byte: u8)
+        requires { length self.old + 3 ≤ ROOM }
+        ensures { Appends self.old self.new (space ∷ hex2 byte) 3 }
+    {
+        self.push_all(&[SPACE, hex_digit(byte / 16), hex_digit(byte % 16)]);
+    }
+
+    // A name after a space, or nothing where it is empty. A size over 32, which no good record has, takes all cells. (The
+    // size comes beside the cells, as the record has it.)
+    pub fn push_name(&mut self, size: u8, cells: &[u8; 32])
+        requires { length self.old + 33 ≤ ROOM }
+        ensures { Appends self.old self.new (name_field (take size cells.now)) 33 }
+    {
+        if size == 0 {
+            return;
+        }
+        self.push(SPACE);
+        self.push_all(&cells[..(size as usize).min(32)]);
+    }
 }
 
-// A number in decimal, after a space.
-pub fn push_field(text: &mut [u8], at: usize, n: u32) -> usize
-    requires { at + 11 ≤ length text.old }
-    ensures { Appends text.old text.new at result (field n) 11 }
-{
-    let first = push(text, at, SPACE);
-    push_decimal(text, first, n)
-}
-
-// A digit below 16, in small letters.
+// A digit below 16, in small letters. (`char::from_digit` is no plainer: it answers an `Option`, and of a char.)
 fn hex_digit(d: u8) -> u8
     requires { d < 16 }
     ensures { result ≡ hex_digit d }
 {
     if d < 10 { b'0' + d } else { b'a' + (d - 10) }
-}
-
-// A byte in two hexadecimal digits, after a space.
-pub fn push_hex(text: &mut [u8], at: usize, byte: u8) -> usize
-    requires { at + 3 ≤ length text.old }
-    ensures { Appends text.old text.new at result (space ∷ hex2 byte) 3 }
-{
-    let high = push(text, at, SPACE);
-    let low = push(text, high, hex_digit(byte / 16));
-    push(text, low, hex_digit(byte % 16))
-}
-
-// How far a number is from 0. The way by -1 - z stays in range for the lowest number too, whose negative is no i16.
-fn magnitude(z: i16) -> u32
-    ensures { result ≡ nat_abs z }
-{
-    if z < 0 { (-1 - z) as u32 + 1 } else { z as u32 }
-}
-
-// A signed number in decimal, after a space: a minus before a number below 0.
-pub fn push_signed(text: &mut [u8], at: usize, z: i16) -> usize
-    requires { at + 12 ≤ length text.old }
-    ensures { Appends text.old text.new at result (space ∷ signed z) 12 }
-{
-    let digits = magnitude(z);
-    let spaced = push(text, at, SPACE);
-    if z < 0 {
-        let first = push(text, spaced, MINUS);
-        push_decimal(text, first, digits)
-    } else {
-        push_decimal(text, spaced, digits)
-    }
-}
-
-// Where the name ends in its cells. A length over 32, which no good record has, takes all of them.
-fn name_end(length: u8) -> usize
-    ensures { result ≡ min length 32 }
-{
-    if 32 < length {
-        return 32;
-    }
-    length as usize
-}
-
-// A name after a space, or nothing where it is empty.
-pub fn push_name(text: &mut [u8], at: usize, size: u8, cells: [u8; 32]) -> usize
-    requires { at + 33 ≤ length text.old }
-    ensures { Appends text.old text.new at result (name_field (take size cells)) 33 }
-{
-    if size == 0 {
-        return at;
-    }
-    let end = name_end(size);
-    let first = push(text, at, SPACE);
-    push_all(text, first, &cells[..end])
 }

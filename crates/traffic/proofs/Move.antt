@@ -1,32 +1,29 @@
 -- The call "move" at a node of a sound started ring. The first cell of the buffer is a message under way on a channel of the ring; each
 -- refusal and each of the three ways it goes (taken, delivered, passed on) by the tests that the code makes.
-use Prim.Native.Nat.{ℕ, suc, ◌+◌, ◌-◌, ◌≤◌, ◌<◌}
+use Prim.Native.Nat.{ℕ, suc, ◌-◌, ◌*◌, ◌≤◌, ◌<◌}
 use mathlib.Core.Path.{◌≡◌, refl, sym, ap, subst, ◌∙◌}
 use mathlib.Core.Logic.{◌≢◌}
 use mathlib.Core.Bool.{true, false}
 use mathlib.Core.List.{List, ◌∷◌}
 use mathlib.Core.Option.{Option, none, some}
 use native.Mathlib.Omega.{arith}
-use lib.ListN.{length, set, length-set}
+use lib.ListN.{length, get_or, length-set}
 use lib.Seq.{get_or-set_same, get_or-set_other, set-set}
 use borrow.Author.Tests.{lt-ltb, le-ltb, eq-eqb, ne_eqb}
+use Rattle.std.specs.Prelude.{Ok}
 use Rattle.refusal.specs.declared.Refusal.TheVariants.{BufferEmpty, NextBufferFull, TurnMarkSet}
 use Rattle.batch.specs.declared.BatchRecord.{BatchRecord}
-use Rattle.batch.specs.Blank.{no_record}
 use Rattle.numbers.specs.declared.ChannelNo.{ChannelNo}
 use Rattle.wire.specs.Record.{record_length, record_in}
 use Rattle.hops.specs.Hops.{next}
 use Rattle.hops.proofs.Laws.{next-below}
-use Rattle.network.specs.declared.Head.{Head}
-use Rattle.network.specs.declared.HeadStep.{HeadStep}
 use Rattle.network.specs.declared.Ring.{Ring}
-use Rattle.network.specs.Answers.{event_reply, step_of}
+use Rattle.network.specs.declared.Answer.TheVariants.{Delivered}
 use Rattle.network.specs.Network.{Network, NodeState, ChannelState, Phase, resting, asking, ready, answering, node_no, channel_no, numbers_of, times_in, count_of_nodes, count_of_channels, no_node, no_channel, node, channel, next_node, moving, target_of, target, with_channel}
-use Rattle.network.specs.Calls.{done, delivered, refused, accepted, Arrival, taken, passing, arrived, arrival_of, arrival, respond, take_request, deliver, leave, pass, hand_over, move_first}
+use Rattle.network.specs.Calls.{Outcome, done, delivered, refused, accepted, Arrival, taken, passing, arrived, arrival_of, arrival, respond, take_request, deliver, leave, pass, hand_over, move_first}
 use Rattle.network.specs.Calls
 use Rattle.network.specs.Runs
-use Rattle.network.specs.Layout.{ring_limits, node_room, channel_room, row_length, row, padded, cells_of, phase_code, offered_flag, offer_bytes, carried_bytes, record_at, view, hold, held_outcome, call_ring, with_nodes, with_deliveries, step_in}
-use Rattle.network.specs.Sound.{next_count}
+use Rattle.network.specs.Layout.{ring_limits, node_room, channel_room, row_length, row, padded, cells_of, phase_code, offered_flag, offer_bytes, carried_bytes, record_at, view, hold, held_outcome, call_ring}
 use Rattle.network.proofs.Ground.Splits.{by-list, by-phase, by-same, both_ways}
 use Rattle.network.proofs.Ground.Counting.{count_same, weigh-cons}
 use Rattle.network.proofs.Lists.Tables.{net_of}
@@ -34,12 +31,11 @@ use Rattle.network.proofs.Lists.Clauses.{sound-started}
 use Rattle.network.proofs.Theory.Kept.{first-moving}
 use Rattle.network.proofs.Memory.Held.{Fits, OfferFits, CarriedFits, HeldNode, HeldChannel, SoundRing, record-kept, held-node}
 use Rattle.network.proofs.Memory.Changes.{fits-with-node, fits-with-channel}
-use Rattle.updates.specs.Flat.{appended, cut_at, recorded, capacity_at, used_at, waiting_at, mark_at, phase_at, offered_at, sender_at, receiver_at, target_by, mark_after, left_head, phased_head, offered_head, left, passed, phased, unoffered, responded, handed_out}
-use Rattle.updates.specs.Answered.{done_step}
-use Rattle.updates.specs.Known.{CanRespond, Responded, AtNode, Leaves, Takes, Delivers, Passes}
-use Rattle.updates.proofs.Openings.{sound-called, accepts, accepted-fits, marked, unmarked}
+use Rattle.updates.specs.Flat.{capacity_at, used_at, mark_at, phase_at, offered_at, sender_at, receiver_at, target_by, left, passed, phased, unoffered, responded, handed_out}
+use Rattle.updates.specs.Known.{CanRespond, AtNode, Leaves, Takes, Delivers, Passes}
+use Rattle.updates.proofs.Openings.{Answered, sound-called, accepted-fits, marked, unmarked}
 use Rattle.updates.proofs.FlatLaws.{first_cell, left-held, passed-held, phased-held, unoffered-held, handed-out-held}
-use Rattle.updates.proofs.Messages.{Answerable, can-respond, responded-held, response-made}
+use Rattle.updates.proofs.Messages.{Answerable, can-respond, responded-held}
 use Rattle.updates.proofs.Reading.{node-known, node-there, node-within, node-numbers, node-running, empty-length, asking-code, none-flag}
 
 module _ {ring : Ring} {p : ℕ} (h : AtNode ring p) where
@@ -53,6 +49,10 @@ module _ {ring : Ring} {p : ℕ} (h : AtNode ring p) where
   pub move-empty : used_at ring.head p ≡ 0 → call_ring (Runs.move (node_no p)) ring ≡ refused BufferEmpty
   move-empty e =
       in_memory ∙ ap held_outcome called ∙ rw (empty-length (node (view ring) (node_no p)).buffer (sym (node-numbers h).used ∙ e))
+
+-- the tests that find a first of the buffer
+pub leaves-first : {ring : Ring} {p : ℕ} → AtNode ring p → used_at ring.head p ≢ 0 → Leaves ring p (get_or ring.slots (row_length * p) 0)
+leaves-first h used = record { at-node = h; some = used; first = refl }
 
 -- the first of the buffer of p: its channel k, and those behind it
 record FirstOf (σ : Network) (p cell k : ℕ) : Type 0 where
@@ -113,6 +113,9 @@ module _ {ring : Ring} {p cell : ℕ} (h : Leaves ring p cell) where
 
   pub cell-within : k < channel_room
   cell-within = omega (arith, first.known, known.fits.channels-fit)
+
+  pub can-leave : (p < node_room) × (0 < used_at ring.head p)
+  can-leave = (node-within at, omega (arith, h.some))
 
   -- the channel's numbers
   channel-is : HeldChannel ring σ k
@@ -195,7 +198,7 @@ module _ {ring : Ring} {p cell : ℕ} (t : Takes ring p cell) where
   takes = handed from arrives-taken
 
   -- no record is offered: the channel becomes ready
-  take-ready : offered_at ring.head asker ≡ 0 → call_ring (Runs.move (node_no p)) ring ≡ accepted done (phased (left ring p) asker 2)
+  pub take-ready : offered_at ring.head asker ≡ 0 → call_ring (Runs.move (node_no p)) ring ≡ accepted done (phased (left ring p) asker 2)
   take-ready bare =
       let no-offer : (channel (view ring) (channel_no asker)).offer ≡ none = none-flag _ (sym (channel-is from).offered ∙ bare) in
       let memory : phased (left ring p) asker 2 ≡ hold (with_channel (channel_no asker) ready none (behind from)) =
@@ -253,34 +256,22 @@ module _ {ring : Ring} {p cell : ℕ} (t : Takes ring p cell) where
           next_fits = subst Fits (sym response-is) (accepted-fits ring (at from).ok (Runs.move (node_no p)) responds);
         }
 
-    take-responds : call_ring (Runs.move (node_no p)) ring ≡ accepted done (responded (unoffered (left ring p) asker) asker x)
+    pub take-responds : call_ring (Runs.move (node_no p)) ring ≡ accepted done (responded (unoffered (left ring p) asker) asker x)
     take-responds =
         in_memory (at from)
         ∙ ap held_outcome responds
         ∙ ap (accepted done) (sym (responded-held answerable (sym bare-held) ∙ ap hold response-is))
 
-  -- the same of what the code made, one change after the other: h is the head without the message
-
-  module _ {h : Head} {slots : List ℕ} (eh : h ≡ left_head ring.head p) (es : slots ≡ cut_at ring.slots p 0) where
-    pub ready_made : {s : HeadStep} → offered_at h asker ≡ 0 → s ≡ done_step (phased_head h asker 2) →
-        step_in s slots ring.lines ring.offers ring.carried ≡ step_of ring (call_ring (Runs.move (node_no p)) ring)
-    ready_made bare e = rw (e, es, eh) (accepts ring (take-ready (rw eh at bare)) refl)
-
-    module _ (has : offered_at h asker ≢ 0) where
-      pub take-room : CanRespond (offered_head h asker 0) asker
-      take-room =
-          let offered : offered_at ring.head asker ≢ 0 = λ e. has (rw eh e) in
-          rw eh (can-respond (answerable offered) (sym (bare-held offered)))
-
-      pub take-made : {r : Head} {x : BatchRecord} {lines offers carried : List ℕ} {s : HeadStep} →
-          x ≡ record_at ring.offers asker → offers ≡ recorded ring.offers asker no_record →
-          Responded (offered_head h asker 0) ring.lines ring.carried asker x r lines carried → s ≡ done_step r →
-          step_in s slots lines offers carried ≡ step_of ring (call_ring (Runs.move (node_no p)) ring)
-      take-made ex eo made e =
-          rw (eo, es)
-          (response-made ring (unoffered (left ring p) asker) (take-responds (λ bare. has (rw eh bare))) (rw (eh, ex) at made) e)
+    -- its sender node's line has room for the response
+    pub take-room : CanRespond (unoffered (left ring p) asker).head asker
+    take-room = can-respond answerable (sym bare-held)
 
 -- a response is delivered
+
+-- the ring and the reply after an accepted call that delivers
+pub hands-out : (ring : Ring) {next : Ring} {o : Outcome Ring} {k : ChannelNo} {x : BatchRecord} → o ≡ accepted (delivered k x) next →
+    Answered ring o next (Ok (Delivered k x))
+hands-out ring law = rw law (refl, refl)
 
 module _ {ring : Ring} {p cell : ℕ} (t : Delivers ring p cell) where
   abbrev leaving : Leaves ring p cell
@@ -305,7 +296,7 @@ module _ {ring : Ring} {p cell : ℕ} (t : Delivers ring p cell) where
       ∙ ap (λ f. (target_of (channel (view ring) (channel_no (k leaving))) f).0) (sym is-answering) in
       rw (eq-eqb _ _ same, is-answering)
 
-  deliver-done : call_ring (Runs.move (node_no p)) ring
+  pub deliver-done : call_ring (Runs.move (node_no p)) ring
       ≡ accepted (delivered (channel_no (k leaving)) record-carried) (handed_out (left ring p) (k leaving))
   deliver-done =
       let memory : handed_out (left ring p) (k leaving) ≡ hold (deliver (channel_no (k leaving)) (behind leaving)) =
@@ -314,16 +305,6 @@ module _ {ring : Ring} {p cell : ℕ} (t : Delivers ring p cell) where
       in_memory (at leaving)
       ∙ ap held_outcome (handed leaving arrives-delivered)
       ∙ ap (accepted (delivered (channel_no (k leaving)) record-carried)) (sym memory)
-
-  pub delivery-made : {h : Head} {x : BatchRecord} {slots carried : List ℕ} {d : ℕ} →
-      h ≡ left_head ring.head p → slots ≡ cut_at ring.slots p 0 → x ≡ record_at ring.carried (cell - 1) →
-      carried ≡ recorded ring.carried (cell - 1) no_record → d ≡ next_count h.deliveries →
-      step_in (record { head = with_deliveries (phased_head h (cell - 1) 0) d; reply = event_reply (delivered (channel_no (cell - 1)) x) }) slots
-      ring.lines
-      ring.offers
-      carried
-      ≡ step_of ring (call_ring (Runs.move (node_no p)) ring)
-  delivery-made eh es ex ec ed = rw (ed, ec, ex, es, eh) (ap (step_of ring) (sym deliver-done))
 
 -- anything else passes on
 
@@ -392,12 +373,12 @@ module _ {ring : Ring} {p q cell : ℕ} (t : Passes ring p q cell) where
           ((known goes).facts.each-node q q-there).slot-limit,
         )
 
-    pass-room : used_at (left ring p).head q < row_length
+    pub pass-room : used_at (left ring p).head q < row_length
     pass-room =
         subst (λ r. used_at r.head q < row_length) (sym (behind-held goes))
         (rw (held-node (behind goes) q nodes_within.1).used room)
 
-    pass-done : mark_at ring.head q ≡ 0 → call_ring (Runs.move (node_no p)) ring ≡ accepted done (passed (left ring p) q cell)
+    pub pass-done : mark_at ring.head q ≡ 0 → call_ring (Runs.move (node_no p)) ring ≡ accepted done (passed (left ring p) q cell)
     pass-done clear =
         let memory : passed (left ring p) q cell ≡ hold (pass (node_no q) (channel_no (k goes)) (behind goes)) =
         ap (λ r. passed r q cell) (behind-held goes)
@@ -407,14 +388,3 @@ module _ {ring : Ring} {p q cell : ℕ} (t : Passes ring p q cell) where
         ∙ ap held_outcome passes
         ∙ rw (lt-ltb _ _ slot, unmarked (node (view ring) (node_no q)).mark (sym next-numbers.mark ∙ clear))
         (ap (accepted done) (sym memory))
-
-    module _ {h : Head} (eh : h ≡ left_head ring.head p) where
-      pub passing-room : used_at h q < row_length
-      passing-room = rw eh pass-room
-
-      pub passing-made : {slots before : List ℕ} {mark : ℕ} {s : HeadStep} → mark_at ring.head q ≡ 0 →
-          before ≡ cut_at ring.slots p 0 → slots ≡ appended before q (used_at h q) cell →
-          mark ≡ mark_after (waiting_at h q) (mark_at h q) →
-          s ≡ done_step (with_nodes h (set h.used q (used_at h q + 1)) h.waiting (set h.marks q mark)) →
-          step_in s slots ring.lines ring.offers ring.carried ≡ step_of ring (call_ring (Runs.move (node_no p)) ring)
-      passing-made clear eb es em e = rw (e, em, es, eb, eh) (accepts ring (pass-done clear) refl)

@@ -2,8 +2,8 @@
 -- back out of its line. The line has room for it,
 -- because the ring after the call is sound and so fits its rows.
 use Prim.Native.Nat.{ℕ, ◌+◌, ◌<◌}
-use mathlib.Core.Path.{◌≡◌, refl, ap, subst, ◌∙◌}
-use mathlib.Core.List.{List, [], ◌∷◌, ◌++◌}
+use mathlib.Core.Path.{◌≡◌, ap, subst, ◌∙◌}
+use mathlib.Core.List.{[], ◌∷◌, ◌++◌}
 use mathlib.Core.Option.{none}
 use native.Mathlib.Numerals.{add-one}
 use native.Mathlib.Omega.{arith}
@@ -13,21 +13,16 @@ use Rattle.batch.specs.declared.BatchRecord.{BatchRecord}
 use Rattle.numbers.specs.declared.NodeNo.{NodeNo}
 use Rattle.numbers.specs.declared.ChannelNo.{ChannelNo}
 use Rattle.wire.specs.Record.{RecordFits}
-use Rattle.network.specs.declared.Head.{Head}
-use Rattle.network.specs.declared.HeadStep.{HeadStep}
 use Rattle.network.specs.declared.Ring.{Ring}
-use Rattle.network.specs.Answers.{step_of}
 use Rattle.network.specs.Network.{Network, NodeState, resting, asking, answering, node_no, channel_no, count_of_nodes, count_of_channels, no_node, node, channel, with_channel}
-use Rattle.network.specs.Calls.{Outcome, done, accepted, join_line, request, take_back, respond}
-use Rattle.network.specs.Layout.{node_room, row_length, hold, step_in}
+use Rattle.network.specs.Calls.{join_line, request, take_back, respond}
+use Rattle.network.specs.Layout.{node_room, row_length, hold}
 use Rattle.network.proofs.Memory.Held.{Fits, HeldChannel, held-node, held-channel}
 use Rattle.network.proofs.Memory.Changes.{fits-with-channel}
 use Rattle.updates.specs.Flat.{sender_at, receiver_at, joined, shortened, phased, responded}
-use Rattle.updates.specs.Known.{CanJoin, CanRespond, Responded}
-use Rattle.updates.specs.Answered.{done_step}
+use Rattle.updates.specs.Known.{CanJoin, CanRespond}
 use Rattle.updates.proofs.FlatLaws.{joined-held, shortened-held, phased-held, answered-held}
 use Rattle.updates.proofs.Lines.{SplitAt}
-use Rattle.updates.proofs.Openings.{accepts}
 
 -- where a message has joined a line there was room for it
 joined-room : (σ : Network) (p : NodeNo) (k : ChannelNo) → p.0 < count_of_nodes σ → Fits (join_line p k σ) →
@@ -127,9 +122,3 @@ module _ {σ : Network} {k : ℕ} {x : BatchRecord} (a : Answerable σ k x) wher
 
     pub responded-held : responded ring k x ≡ hold (respond (channel_no k) x σ)
     responded-held = subst (λ r. responded r k x ≡ hold (respond (channel_no k) x σ)) held responded-hold
-
--- the code's answer where the call is done with a response, made on the ring r
-pub response-made : (ring r : Ring) {k : ℕ} {x : BatchRecord} {h : Head} {lines carried : List ℕ} {s : HeadStep} {o : Outcome Ring} →
-    o ≡ accepted done (responded r k x) → Responded r.head r.lines r.carried k x h lines carried → s ≡ done_step h →
-    step_in s r.slots lines r.offers carried ≡ step_of ring o
-response-made ring r law made e = rw (e, made.head-is, made.lines_are, made.carried-are) (accepts ring law refl)

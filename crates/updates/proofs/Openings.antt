@@ -8,29 +8,30 @@ use mathlib.Core.Bool.{Bool, true, false, not}
 use native.Mathlib.Omega.{arith}
 use lib.Dec.{ltb}
 use borrow.Author.Tests.{ltb-true, ne_eqb}
+use Rattle.std.specs.Prelude.{Ok, Err}
+use Rattle.std.specs.Result.{IsErrAnd}
+use Rattle.std.proofs.lemmas.Result.{err_from_is_err_and}
 use Rattle.refusal.specs.declared.Refusal.{Refusal}
 use Rattle.refusal.specs.declared.Refusal.TheVariants.{UnsoundRing, AlreadyStarted, NotStarted, NoSuchChannel, NoSuchNode}
-use Rattle.refusal.specs.declared.Verdict.{Verdict}
-use Rattle.refusal.specs.declared.Verdict.TheVariants.{Passed, Refused}
+use Rattle.refusal.specs.Number.{Verdict}
 use Rattle.numbers.specs.declared.ChannelNo.{ChannelNo}
 use Rattle.numbers.specs.declared.NodeNo.{NodeNo}
 use Rattle.network.specs.declared.Ring.{Ring}
-use Rattle.network.specs.declared.HeadStep.{HeadStep}
-use Rattle.network.specs.Answers.{reply_of, step_of}
+use Rattle.network.specs.declared.Answer.TheVariants.{Done}
+use Rattle.network.specs.Answers.{Reply, reply_of}
 use Rattle.network.specs.Counting.{one}
 use Rattle.network.specs.Network.{Network}
 use Rattle.network.specs.Calls.{Event, Outcome, done, refused, accepted, unless}
 use Rattle.network.specs.Calls
 use Rattle.network.specs.Sound.{sound}
 use Rattle.network.specs.Runs.{Call, add_node, add_channel, start, receive, send, enter, move, withdraw, hops_left, waiting_set, call, after}
-use Rattle.network.specs.Layout.{ring_limits, view, sound_ring, held_outcome, call_ring, step_in}
+use Rattle.network.specs.Layout.{ring_limits, view, sound_ring, held_outcome, call_ring}
 use Rattle.network.proofs.Ground.Splits.{by-test, by-same, both_ways}
 use Rattle.network.proofs.Lists.Clauses.{facts}
 use Rattle.network.proofs.Memory.Held.{Fits, Held, sound-ring, sound-fits}
 use Rattle.network.proofs.Lists.Bridge.{call-sound}
 use Rattle.updates.specs.declared.opening.Subject.{Subject}
 use Rattle.updates.specs.declared.opening.Subject.TheVariants.{Plan, Channel, Node, Tasks}
-use Rattle.updates.specs.Answered.{refused_step, done_step}
 use Rattle.updates.specs.Known.{Planned, AtNode, AtChannel, AskedAt}
 use Rattle.updates.specs.Openings.{subject_of, begun, before_start, after_start, in_count, sound_opening, opening_of}
 
@@ -44,19 +45,20 @@ pub sound-called : (a : Call) (ring : Ring) → sound_ring ring ≡ true → cal
 unfolding call_ring
 sound-called a ring e = rw e
 
--- the code's answer, with the cells and records as they are left, to a call of which a law says the outcome: a refusal, which leaves the
--- ring, or done with another ring
+-- the ring and the reply after a call of which a law says the outcome: a refusal, which leaves the ring, or done with another ring
 
-pub refuses : (ring : Ring) {s : HeadStep} {o : Outcome Ring} {r : Refusal} → o ≡ refused r → s ≡ refused_step ring.head r →
-    step_in s ring.slots ring.lines ring.offers ring.carried ≡ step_of ring o
-refuses ring law e = ap (λ s. step_in s ring.slots ring.lines ring.offers ring.carried) e ∙ ap (step_of ring) (sym law)
+abbrev pub Answered : Ring → Outcome Ring → Ring → Reply → Type 0
+Answered ring o next reply = (next ≡ after ring o) × (reply ≡ reply_of o)
 
-pub accepts : (ring : Ring) {next : Ring} {s : HeadStep} {o : Outcome Ring} → o ≡ accepted done next → s ≡ done_step next.head →
-    step_in s next.slots next.lines next.offers next.carried ≡ step_of ring o
-accepts ring {next} law e = ap (λ s. step_in s next.slots next.lines next.offers next.carried) e ∙ ap (step_of ring) (sym law)
+pub refuses : (ring : Ring) {reply : Reply} {o : Outcome Ring} {r : Refusal} → o ≡ refused r → reply ≡ Err r → Answered ring o ring reply
+refuses ring law e = rw (law, e) (refl, refl)
 
-pub replies : {o o' : Outcome Ring} → o ≡ o' → (reply_of o').answer ≡ (reply_of o).answer
-replies law = ap (λ o. (reply_of o).answer) (sym law)
+pub accepts : (ring : Ring) {next : Ring} {o : Outcome Ring} → o ≡ accepted done next → Answered ring o next (Ok Done)
+accepts ring law = rw law (refl, refl)
+
+-- what a `?` passes on is what the call answers
+pub passed-on : {reply : Reply} {r : Refusal} → IsErrAnd reply (λ x. x ≡ r) → reply ≡ Err r
+passed-on {reply} told = let out = err_from_is_err_and reply told in rw out.2 at out.1
 
 -- a flag that stands for a test
 
@@ -84,17 +86,17 @@ module _ (ring : Ring) (ok : sound_ring ring ≡ true) where
 
 -- the tests of an opening are the first tests of the call: where one of them fails, the call is refused with the same number
 
-test-refused : (b : Bool) (x : Refusal) (rest : Verdict) (o : Outcome Network) {r : Refusal} → (rest ≡ Refused r → o ≡ refused r) →
-    unless b (Refused x) rest ≡ Refused r → unless b (refused x) o ≡ refused r
+test-refused : (b : Bool) (x : Refusal) (rest : Verdict) (o : Outcome Network) {r : Refusal} → (rest ≡ Err r → o ≡ refused r) →
+    unless b (Err x) rest ≡ Err r → unless b (refused x) o ≡ refused r
 test-refused true x rest o next e = next e
 test-refused false x rest o {r} next e = let same : x ≡ r = cc in ap refused same
 
-never-refused : {r : Refusal} {o : Outcome Network} → Passed ≡ Refused r → o ≡ refused r
+never-refused : {r : Refusal} {o : Outcome Network} → ◌≡◌ {A = Verdict} (Ok tt) (Err r) → o ≡ refused r
 never-refused e = let z : ◌≡◌ {A = ℕ} 0 1 = cc in absurd (omega arith)
 
-there-refused : {count n : ℕ} (k : ℕ) (none : Refusal) (o : Outcome Network) {r : Refusal} → count ≡ n → in_count count k none ≡ Refused r →
+there-refused : {count n : ℕ} (k : ℕ) (none : Refusal) (o : Outcome Network) {r : Refusal} → count ≡ n → in_count count k none ≡ Err r →
     unless (ltb k n) (refused none) o ≡ refused r
-there-refused {n = n} k none o same e = test-refused (ltb k n) none Passed o never-refused (rw same at e)
+there-refused {n = n} k none o same e = test-refused (ltb k n) none (Ok tt) o never-refused (rw same at e)
 
 module _ (ring : Ring) (ok : sound_ring ring ≡ true) where
   abbrev σ : Network
@@ -106,17 +108,17 @@ module _ (ring : Ring) (ok : sound_ring ring ≡ true) where
   pub begun-is : begun ring.head.started ≡ σ.started
   begun-is = ap begun numbers.started ∙ by-test σ.started (λ t. rw t) (λ t. rw t)
 
-  plan-refused : (o : Outcome Network) {r : Refusal} → before_start ring.head.started ≡ Refused r →
+  plan-refused : (o : Outcome Network) {r : Refusal} → before_start ring.head.started ≡ Err r →
       unless (not σ.started) (refused AlreadyStarted) o ≡ refused r
-  plan-refused o e = test-refused (not σ.started) AlreadyStarted Passed o never-refused (rw begun-is at e)
+  plan-refused o e = test-refused (not σ.started) AlreadyStarted (Ok tt) o never-refused (rw begun-is at e)
 
   going-refused : {count n : ℕ} (k : ℕ) (none : Refusal) (o : Outcome Network) {r : Refusal} → count ≡ n →
-      after_start ring.head.started count k none ≡ Refused r →
+      after_start ring.head.started count k none ≡ Err r →
       unless σ.started (refused NotStarted) (unless (ltb k n) (refused none) o) ≡ refused r
   going-refused {count} k none o same e =
       test-refused σ.started NotStarted (in_count count k none) _ (there-refused k none o same) (rw begun-is at e)
 
-  called-refused : (a : Call) {r : Refusal} → sound_opening ring (subject_of a) ≡ Refused r → call ring_limits a σ ≡ refused r
+  called-refused : (a : Call) {r : Refusal} → sound_opening ring (subject_of a) ≡ Err r → call ring_limits a σ ≡ refused r
   unfolding Calls.add_node Calls.add_channel Calls.start Calls.receive Calls.send Calls.enter Calls.move Calls.withdraw Calls.hops_left Calls.waiting_set
   called-refused (add_node slots) e = plan-refused _ e
   called-refused (add_channel s r) e = plan-refused _ e
@@ -130,55 +132,55 @@ module _ (ring : Ring) (ok : sound_ring ring ≡ true) where
   called-refused (waiting_set p) e = there-refused p.0 NoSuchNode _ numbers.node-count e
 
 module _ (a : Call) (ring : Ring) where
-  pub opening-refused : {r : Refusal} → opening_of ring (subject_of a) ≡ Refused r → call_ring a ring ≡ refused r
+  pub opening-refused : {r : Refusal} → opening_of ring (subject_of a) ≡ Err r → call_ring a ring ≡ refused r
   opening-refused {r} e =
       by-test (sound_ring ring)
       (λ ok. sound-called a ring ok ∙ ap held_outcome (called-refused ring ok a (rw ok at e)))
-      (λ bad. let same : Refused UnsoundRing ≡ Refused r = rw bad at e in let number : UnsoundRing ≡ r = cc in unsound-refused a ring bad ∙ ap refused number)
+      (λ bad. let same : ◌≡◌ {A = Verdict} (Err UnsoundRing) (Err r) = rw bad at e in let number : UnsoundRing ≡ r = cc in unsound-refused a ring bad ∙ ap refused number)
 
-  -- the same of the code's answer to a call whose opening was refused
-  pub turns-away : {o : Verdict} {r : Refusal} {s : HeadStep} → o ≡ opening_of ring (subject_of a) → o ≡ Refused r →
-      s ≡ refused_step ring.head r → step_in s ring.slots ring.lines ring.offers ring.carried ≡ step_of ring (call_ring a ring)
-  turns-away same told e = refuses ring (opening-refused (sym same ∙ told)) e
+  -- the same of the ring and the reply after a call whose opening was refused
+  pub turns-away : {reply : Reply} {r : Refusal} → Err r ≡ opening_of ring (subject_of a) → reply ≡ Err r →
+      Answered ring (call_ring a ring) ring reply
+  turns-away told e = refuses ring (opening-refused (sym told)) e
 
 -- where an opening passed, all its tests passed
 
-test-open : (b : Bool) (x : Refusal) (rest : Verdict) → unless b (Refused x) rest ≡ Passed → (b ≡ true) × (rest ≡ Passed)
+test-open : (b : Bool) (x : Refusal) (rest : Verdict) → unless b (Err x) rest ≡ (Ok tt) → (b ≡ true) × (rest ≡ (Ok tt))
 test-open true x rest e = (refl, e)
 test-open false x rest e = let z : ◌≡◌ {A = ℕ} 0 1 = cc in absurd (omega arith)
 
 module _ (ring : Ring) where
-  sound-open : (subject : Subject) {o : Verdict} → o ≡ opening_of ring subject → o ≡ Passed →
-      (sound_ring ring ≡ true) × (sound_opening ring subject ≡ Passed)
-  sound-open subject same told = test-open (sound_ring ring) UnsoundRing (sound_opening ring subject) (sym same ∙ told)
+  sound-open : (subject : Subject) {u : Unit} → Ok u ≡ opening_of ring subject →
+      (sound_ring ring ≡ true) × (sound_opening ring subject ≡ (Ok tt))
+  sound-open subject told = test-open (sound_ring ring) UnsoundRing (sound_opening ring subject) (sym told)
 
-  going-open : (count k : ℕ) (none : Refusal) → after_start ring.head.started count k none ≡ Passed →
+  going-open : (count k : ℕ) (none : Refusal) → after_start ring.head.started count k none ≡ (Ok tt) →
       (ring.head.started ≢ 0) × (k < count)
   going-open count k none e =
       let going = test-open (begun ring.head.started) NotStarted (in_count count k none) e in
-      let there = test-open (ltb k count) none Passed going.1 in
+      let there = test-open (ltb k count) none (Ok tt) going.1 in
       (λ still. both_ways going.0 (rw still), ltb-true k count there.0)
 
-  pub plan-passed : {o : Verdict} → o ≡ opening_of ring Plan → o ≡ Passed → Planned ring
-  plan-passed same told =
-      let sound = sound-open Plan same told in
-      let waits = test-open (not (begun ring.head.started)) AlreadyStarted Passed sound.1 in
+  pub plan-passed : {u : Unit} → Ok u ≡ opening_of ring Plan → Planned ring
+  plan-passed told =
+      let sound = sound-open Plan told in
+      let waits = test-open (not (begun ring.head.started)) AlreadyStarted (Ok tt) sound.1 in
       record { ok = sound.0; still = by-same ring.head.started 0 (λ e. e) (λ d. both_ways waits.0 (rw (ne_eqb _ 0 d))) }
 
-  pub channel-passed : {k : ChannelNo} {o : Verdict} → o ≡ opening_of ring (Channel k) → o ≡ Passed → AtChannel ring k.0
-  channel-passed {k} same told =
-      let sound = sound-open (Channel k) same told in
+  pub channel-passed : {k : ChannelNo} {u : Unit} → Ok u ≡ opening_of ring (Channel k) → AtChannel ring k.0
+  channel-passed {k} told =
+      let sound = sound-open (Channel k) told in
       let rest = going-open ring.head.channel_count k.0 NoSuchChannel sound.1 in
       record { ok = sound.0; going = rest.0; there = rest.1 }
 
-  pub node-passed : {p : NodeNo} {o : Verdict} → o ≡ opening_of ring (Node p) → o ≡ Passed → AtNode ring p.0
-  node-passed {p} same told =
-      let sound = sound-open (Node p) same told in
+  pub node-passed : {p : NodeNo} {u : Unit} → Ok u ≡ opening_of ring (Node p) → AtNode ring p.0
+  node-passed {p} told =
+      let sound = sound-open (Node p) told in
       let rest = going-open ring.head.node_count p.0 NoSuchNode sound.1 in
       record { ok = sound.0; going = rest.0; there = rest.1 }
 
-  pub tasks-passed : {p : NodeNo} {o : Verdict} → o ≡ opening_of ring (Tasks p) → o ≡ Passed → AskedAt ring p.0
-  tasks-passed {p} same told =
-      let sound = sound-open (Tasks p) same told in
-      let there = test-open (ltb p.0 ring.head.node_count) NoSuchNode Passed sound.1 in
+  pub tasks-passed : {p : NodeNo} {u : Unit} → Ok u ≡ opening_of ring (Tasks p) → AskedAt ring p.0
+  tasks-passed {p} told =
+      let sound = sound-open (Tasks p) told in
+      let there = test-open (ltb p.0 ring.head.node_count) NoSuchNode (Ok tt) sound.1 in
       record { ok = sound.0; there = ltb-true _ _ there.0 }

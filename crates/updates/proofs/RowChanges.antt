@@ -1,98 +1,64 @@
--- A row from which one cell is cut, cell by cell: each store copies the next cell, and the last is zero. The loop's invariant is that so
--- much of the new row stands already (`paste`).
-use Prim.Native.Nat.{ℕ, ◌+◌, ◌-◌, ◌*◌, ◌≤◌, ◌<◌}
+-- A row from which one cell is cut: the cells behind it are copied one place down, and the last is zero.
+use Prim.Native.Nat.{ℕ, suc, ◌+◌, ◌-◌, ◌*◌, ◌≤◌, ◌<◌}
 use mathlib.Core.Path.{◌≡◌, sym, ap, ◌∙◌}
-use mathlib.Core.List.{List, [], ◌∷◌, ◌++◌}
-use native.Mathlib.Numerals.{add-one}
+use mathlib.Core.List.{List, ◌∷◌, ◌++◌, append_assoc}
 use native.Mathlib.Omega.{arith}
-use lib.ListN.{length, get_or, set, take, drop, length-append, length-drop, take-append-drop, get_or-append}
-use lib.Seq.{paste, paste-suc, length_paste_head, length-take-le, get_or-append-add, get_or-take, get_or-drop, take-take, take-append-le, take-add, take_all, get_or_at}
+use lib.ListN.{length, get_or, set, take, drop, length-drop}
+use lib.Seq.{length_paste_head, set-append_seam, take-take, take-add, drop-cons, drop-drop}
+use Rattle.std.specs.List.{copy_within}
+use Rattle.std.proofs.lemmas.List.{drop-take}
 use Rattle.network.specs.Layout.{row, row_length}
-use Rattle.network.proofs.Memory.Rows.{row-length}
-use Rattle.updates.specs.Flat.{cut_row}
-
--- the last cell of a row
-abbrev pub last_cell : ℕ
-last_cell = row_length - 1
+use Rattle.updates.specs.Flat.{cut_at}
 
 module _ (cells : List ℕ) (p from : ℕ) (full : row_length * p + row_length ≤ length cells) (inside : from < row_length) where
-  abbrev old : List ℕ
-  old = row row_length cells p
+  abbrev base : ℕ
+  base = row_length * p
 
-  -- the new row of node p
-  abbrev pub after : List ℕ
-  after = cut_row old from
+  -- the cells behind it, and all that stands before the last cell after the copy
+  abbrev behind : List ℕ
+  behind = drop (base + from + 1) cells
 
-  old-length : length old ≡ row_length
-  old-length = row-length row_length cells p full
+  abbrev count : ℕ
+  count = base + row_length - (base + from + 1)
 
-  front_length : length (take from old) ≡ from
-  front_length = length-take-le from old (omega (arith, old-length))
+  abbrev front : List ℕ
+  front = take (base + from) cells ++ take count behind
 
-  back-length : length (drop (from + 1) old) ≡ last_cell - from
-  back-length = length-drop (from + 1) old ∙ omega (arith, old-length)
+  front_length : length front ≡ base + row_length - 1
+  front_length =
+      length_paste_head cells (base + from) behind count (omega arith) (omega (arith, length-drop (base + from + 1) cells))
+      ∙ omega arith
 
-  after-length : length after ≡ row_length
-  after-length = simp length-append (omega (arith, front_length, back-length))
+  last-left : drop (base + from + count) cells ≡ get_or cells (base + from + count) 0 ∷ drop (base + row_length) cells
+  last-left =
+      let next : suc (base + from + count) ≡ base + row_length = omega arith in
+      drop-cons cells (base + from + count) 0 (omega arith)
+      ∙ ap (λ i. get_or cells (base + from + count) 0 ∷ drop i cells) next
 
-  behind : (m : ℕ) → get_or after (from + m) 0 ≡ get_or (drop (from + 1) old ++ (0 ∷ [])) m 0
-  behind m =
-      ap (λ i. get_or after (i + m) 0) (sym front_length)
-      ∙ get_or-append-add (take from old) (drop (from + 1) old ++ (0 ∷ [])) m 0
+  emptied : set (copy_within cells (base + from + 1) (base + row_length) (base + from)) (base + row_length - 1) 0
+      ≡ front ++ (0 ∷ drop (base + row_length) cells)
+  emptied =
+      ap (λ r. set (front ++ r) (base + row_length - 1) 0) last-left
+      ∙ ap (λ i. set (front ++ (get_or cells (base + from + count) 0 ∷ drop (base + row_length) cells)) i 0) (sym front_length)
+      ∙ set-append_seam front _ (drop (base + row_length) cells) 0
 
-  -- the cell that each store puts down, as it stands in the old row
-  after-at : (j : ℕ) → from ≤ j → j < last_cell → get_or after j 0 ≡ get_or cells (row_length * p + j + 1) 0
+  -- the same two parts of the old row
+  head_part : take (base + from) cells ≡ take base cells ++ take from (row row_length cells p)
   unfolding row
-  after-at j l less =
-      let place : from + (j - from) ≡ j = omega arith in
-      ap (λ i. get_or after i 0) (sym place)
-      ∙ behind (j - from)
-      ∙ get_or-append (drop (from + 1) old) (0 ∷ []) 0 (j - from) (omega (arith, back-length))
-      ∙ get_or-drop (from + 1) old (j - from) 0
-      ∙ get_or-take row_length (drop (row_length * p) cells) (from + 1 + (j - from)) 0 (omega arith)
-      ∙ get_or-drop (row_length * p) cells (from + 1 + (j - from)) 0
-      ∙ ap (λ i. get_or cells i 0) (omega arith)
+  head_part =
+      take-add base from cells
+      ∙ ap (λ r. take base cells ++ r) (sym (take-take from row_length (drop base cells) (omega arith)))
 
-  pub after_last : get_or after last_cell 0 ≡ 0
-  after_last =
-      let place : from + (last_cell - from) ≡ last_cell = omega arith in
-      ap (λ i. get_or after i 0) (sym place)
-      ∙ behind (last_cell - from)
-      ∙ get_or_at (drop (from + 1) old) 0 [] 0 (last_cell - from) back-length
-
-  -- before the loop the cells before `from` stand already
-  pub cut-begun : cells ≡ paste cells (row_length * p) after from
+  tail_part : take count behind ≡ drop (from + 1) (row row_length cells p)
   unfolding row
-  cut-begun =
-      let front : take from after ≡ take from (drop (row_length * p) cells) =
-      take-append-le from (take from old) (drop (from + 1) old ++ (0 ∷ [])) (omega (arith, front_length))
-      ∙ take_all from (take from old) (omega (arith, front_length))
-      ∙ take-take from row_length (drop (row_length * p) cells) (omega arith) in
-      sym
-      (ap (λ f. take (row_length * p) cells ++ f ++ drop (row_length * p + from) cells) front
-      ∙ ap (λ f. f ++ drop (row_length * p + from) cells) (sym (take-add (row_length * p) from cells))
-      ∙ take-append-drop (row_length * p + from) cells)
+  tail_part =
+      let place : base + from + 1 ≡ base + (from + 1) = omega arith in
+      let whole : from + 1 + count ≡ row_length = omega arith in
+      ap (take count) (ap (λ i. drop i cells) place ∙ sym (drop-drop (from + 1) base cells))
+      ∙ sym (drop-take (from + 1) count (drop base cells))
+      ∙ ap (λ n. drop (from + 1) (take n (drop base cells))) whole
 
-  -- a cell that the loop has not passed is as it was, and is the next to be put down
-  pub not-passed : (j : ℕ) → from ≤ j → j < last_cell →
-      get_or (paste cells (row_length * p) after j) (row_length * p + j + 1) 0 ≡ get_or after j 0
-  not-passed j l less =
-      let head = take (row_length * p) cells ++ take j after in
-      let size : length head ≡ row_length * p + j =
-      length_paste_head cells (row_length * p) after j (omega arith) (omega (arith, after-length)) in
-      ap (λ i. get_or (head ++ drop (row_length * p + j) cells) (i + 1) 0) (sym size)
-      ∙ get_or-append-add head (drop (row_length * p + j) cells) 1 0
-      ∙ get_or-drop (row_length * p + j) cells 1 0
-      ∙ sym (after-at j l less)
-
-  -- one store takes the row one cell further
-  pub moved_on : (j v : ℕ) → j < row_length → v ≡ get_or after j 0 →
-      set (paste cells (row_length * p) after j) (row_length * p + j) v ≡ paste cells (row_length * p) after (j + 1)
-  moved_on j v l e =
-      rw e
-      (paste-suc cells (row_length * p) after j 0 (omega arith) (omega (arith, after-length))
-      ∙ ap (paste cells (row_length * p) after) (sym (add-one j)))
-
-  pub cut-whole : paste cells (row_length * p) after row_length ≡
-      take (row_length * p) cells ++ after ++ drop (row_length * p + row_length) cells
-  cut-whole = rw (take_all row_length after (omega (arith, after-length)))
+  pub cut-made : set (copy_within cells (base + from + 1) (base + row_length) (base + from)) (base + row_length - 1) 0 ≡ cut_at cells p from
+  cut-made =
+      emptied
+      ∙ rw (head_part, tail_part) (simp append_assoc)

@@ -1,11 +1,10 @@
 -- What is known where a part of a call is made: the tests that were made before it.
 use Rattle.std.specs.Prelude.{ℕ, ◌+◌, ◌-◌, ◌*◌, ◌≤◌, ◌<◌, ◌≡◌, ◌≢◌, true, List, get_or}
-use Rattle.batch.specs.declared.BatchRecord.{BatchRecord}
 use Rattle.hops.specs.Hops.{next}
 use Rattle.network.specs.declared.Head.{Head}
 use Rattle.network.specs.declared.Ring.{Ring}
-use Rattle.network.specs.Layout.{node_room, channel_room, row_length, sound_ring, asking_code, answering_code}
-use Rattle.updates.specs.Flat.{appended, recorded, used_at, waiting_at, sender_at, receiver_at, phase_at, joined_head, phased_head, target_by}
+use Rattle.network.specs.Layout.{node_room, channel_room, row_length, sound_ring, asking_code}
+use Rattle.updates.specs.Flat.{used_at, waiting_at, sender_at, receiver_at, phase_at, target_by}
 
 -- the line of node p has room for one more
 pub record CanJoin (h : Head) (p : ℕ) : Type 0 where
@@ -28,12 +27,6 @@ pub record FirstAt (cells : List ℕ) (base used cell i : ℕ) : Type 0 where
 pub record CanRespond (h : Head) (k : ℕ) : Type 0 where
   pub known : k < channel_room
   pub line : CanJoin h (sender_at h k)
-
--- a response was made: the channel is answering, the record is carried, and the response stands last in the sender node's line
-pub record Responded (h : Head) (lines carried : List ℕ) (k : ℕ) (x : BatchRecord) (h' : Head) (lines' carried' : List ℕ) : Type 0 where
-  pub head-is : h' ≡ joined_head (phased_head h k answering_code) (sender_at h k)
-  pub lines_are : lines' ≡ appended lines (sender_at h k) (waiting_at h (sender_at h k)) (k + 1)
-  pub carried-are : carried' ≡ recorded carried k x
 
 -- a sound started ring, and one of its nodes or channels
 pub record AtNode (ring : Ring) (p : ℕ) : Type 0 where

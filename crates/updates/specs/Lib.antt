@@ -1,5 +1,4 @@
--- The changes of a ring in memory, what is known where they are made, how a call opens, and the answers that most calls give.
+-- The changes of a ring in memory, what is known where they are made, and how a call opens.
 pub mod Flat
 pub mod Known
 pub mod Openings
-pub mod Answered

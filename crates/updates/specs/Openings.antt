@@ -1,9 +1,8 @@
 -- What every call opens with: the refusals of document 01 that come first, in their order, by what the call is about.
-use Rattle.std.specs.Prelude.{ℕ, Bool, not, ltb, eqb}
+use Rattle.std.specs.Prelude.{ℕ, Bool, not, ltb, eqb, Ok, Err}
 use Rattle.refusal.specs.declared.Refusal.{Refusal}
 use Rattle.refusal.specs.declared.Refusal.TheVariants.{UnsoundRing, AlreadyStarted, NotStarted, NoSuchChannel, NoSuchNode}
-use Rattle.refusal.specs.declared.Verdict.{Verdict}
-use Rattle.refusal.specs.declared.Verdict.TheVariants.{Passed, Refused}
+use Rattle.refusal.specs.Number.{Verdict}
 use Rattle.network.specs.declared.Ring.{Ring}
 use Rattle.network.specs.Calls.{unless}
 use Rattle.network.specs.Runs.{Call, add_node, add_channel, start, receive, send, enter, move, withdraw, hops_left, waiting_set}
@@ -29,13 +28,13 @@ abbrev pub begun : ℕ → Bool
 begun started = not (eqb started 0)
 
 abbrev pub before_start : ℕ → Verdict
-before_start started = unless (not (begun started)) (Refused AlreadyStarted) Passed
+before_start started = unless (not (begun started)) (Err AlreadyStarted) (Ok tt)
 
 abbrev pub in_count : ℕ → ℕ → Refusal → Verdict
-in_count count number none = unless (ltb number count) (Refused none) Passed
+in_count count number none = unless (ltb number count) (Err none) (Ok tt)
 
 abbrev pub after_start : ℕ → ℕ → ℕ → Refusal → Verdict
-after_start started count number none = unless (begun started) (Refused NotStarted) (in_count count number none)
+after_start started count number none = unless (begun started) (Err NotStarted) (in_count count number none)
 
 abbrev pub sound_opening : Ring → Subject → Verdict
 sound_opening ring Plan = before_start ring.head.started
@@ -45,4 +44,4 @@ sound_opening ring (Tasks p) = in_count ring.head.node_count p.0 NoSuchNode
 
 -- an unsound ring is refused before all others
 abbrev pub opening_of : Ring → Subject → Verdict
-opening_of ring subject = unless (sound_ring ring) (Refused UnsoundRing) (sound_opening ring subject)
+opening_of ring subject = unless (sound_ring ring) (Err UnsoundRing) (sound_opening ring subject)

@@ -1,19 +1,20 @@
-// The changes that the ring calls are made of, and their answers: for the crates of the calls alone. Buffers and lines are rows of cells:
-// a cell is put after the used ones, or one is cut out and those after it move up. Cells and records are changed where they lie; the
-// head goes by value. What a change asks, every call has tested before it.
+// The changes that the ring calls are made of, and how a call opens: for the crates of the calls alone. Buffers and lines are rows of
+// cells: a cell is put after the used ones, or one is cut out and those after it move up. What a change asks, every call has tested
+// before it. The layout of the ring is the C interface's: so how many cells of a row are used stands in the head and not with the row, and
+// phases and flags are bytes.
 #![tactic(auto)]
 
-pub mod answer;
 pub mod opening;
 
-ghost use Rattle.std.specs.Prelude.{◌≡◌, ◌≤◌, ◌<◌, ◌+◌, length};
+ghost use Rattle.std.specs.Prelude.{◌≡◌, ◌<◌, length, eqb};
+ghost use Rattle.std.specs.List.{position};
 ghost use Rattle.batch.specs.Blank.{no_record};
 ghost use Rattle.network.specs.Layout.{node_room, channel_room, row_length, cell_room, record_at};
-ghost use Rattle.updates.specs.Flat.{appended, cut_at, recorded, joined_head, left_head, shortened_head, mark_left, waiting_at, used_at};
-ghost use Rattle.updates.specs.Known.{CanJoin, CanLeave, CanRespond, FirstAt, Responded};
+ghost use Rattle.updates.specs.Flat.{appended, cut_at, recorded, joined, left, shortened, mark_left, responded, used_at};
+ghost use Rattle.updates.specs.Known.{CanJoin, CanLeave, CanRespond};
 
 use batch::BatchRecord;
-use network::{Cells, Head, Records, Ring};
+use network::{Cells, Records, Ring};
 
 // A cell is put after the used ones of the row of node `at`.
 pub fn put(cells: &mut Cells, at: usize, used: u8, cell: u8)
@@ -31,28 +32,16 @@ pub fn cut(cells: &mut Cells, at: usize, from: usize)
     ensures { cells.new ≡ cut_at cells.old at from }
 {
     let base = network::ROW * at;
-    let last = network::ROW - 1;
-    let mut j = from;
-    while j < last {
-        cells[base + j] = cells[base + j + 1];
-        j += 1;
-    }
-    cells[base + last] = 0;
+    let end = base + network::ROW;
+    cells.copy_within(base + from + 1..end, base + from);
+    cells[end - 1] = 0;
 }
 
-// The index at which the cell stands first among the `used` cells from `base` on, or `used` where it is not among them.
-pub fn index_in(cells: &Cells, base: usize, used: usize, cell: u8) -> usize
-    requires { base + used ≤ cell_room }
-    ensures { FirstAt cells.now base used cell result }
+// The index at which the cell stands first among these.
+pub fn index_in(cells: &[u8], cell: u8) -> Option<usize>
+    ensures { result ≡ position (λ c. eqb c cell) cells.now }
 {
-    let mut i: usize = 0;
-    while i < used {
-        if cells[base + i] == cell {
-            return i;
-        }
-        i += 1;
-    }
-    used
+    cells.iter().position(|c| *c == cell)
 }
 
 // The record of channel k.
@@ -76,74 +65,54 @@ pub fn clear_record(records: &mut Records, k: usize)
     requires { k < channel_room }
     ensures { records.new ≡ recorded records.old k no_record }
 {
-    let none = BatchRecord::none();
-    wire::put_record_at(records, wire::RECORD_LENGTH * k, none);
+    set_record(records, k, BatchRecord::none());
 }
 
 // A message joins the line of node `at`.
-pub fn join(mut head: Head, lines: &mut Cells, at: usize, cell: u8) -> Head
-    requires { CanJoin head at }
-    ensures value { result ≡ joined_head head at }
-    ensures lines_after { lines.new ≡ appended lines.old at (waiting_at head at) cell }
+pub fn join(ring: &mut Ring, at: usize, cell: u8)
+    requires { CanJoin ring.old.head at }
+    ensures { ring.new ≡ joined ring.old at cell }
 {
-    let waiting = head.waiting[at];
-    put(lines, at, waiting, cell);
-    head.waiting[at] = waiting + 1;
-    head
+    let waiting = ring.head.waiting[at];
+    put(&mut ring.lines, at, waiting, cell);
+    ring.head.waiting[at] = waiting + 1;
 }
 
 // The message at index `from` leaves the line of node `at`, and the turn mark is cleared if that leaves the line empty.
-pub fn leave_line(mut head: Head, lines: &mut Cells, at: usize, from: usize) -> Head
-    requires can_leave { CanLeave head at from }
-    requires lines_len { length lines.old ≡ cell_room }
-    ensures value { result ≡ shortened_head head at }
-    ensures lines_after { lines.new ≡ cut_at lines.old at from }
+pub fn leave_line(ring: &mut Ring, at: usize, from: usize)
+    requires { CanLeave ring.old.head at from }
+    ensures { ring.new ≡ shortened ring.old at from }
 {
-    let waiting = head.waiting[at];
-    let mark = head.marks[at];
-    cut(lines, at, from);
-    head.waiting[at] = waiting - 1;
-    head.marks[at] = mark_left(waiting, mark);
-    head
+    let waiting = ring.head.waiting[at];
+    cut(&mut ring.lines, at, from);
+    ring.head.waiting[at] = waiting - 1;
+    ring.head.marks[at] = mark_left(waiting, ring.head.marks[at]);
 }
 
 // The turn mark of a line that one of its `waiting` messages leaves: it is cleared where the line is left empty.
 fn mark_left(waiting: u8, mark: u8) -> u8
     ensures { result ≡ mark_left waiting mark }
 {
-    if 1 < waiting {
-        return mark;
-    }
-    0
+    if 1 < waiting { mark } else { 0 }
 }
 
 // The first message leaves the buffer of node `at`.
-pub fn leave(mut head: Head, slots: &mut Cells, at: usize) -> Head
-    requires at_lt_node_room { (at < node_room) × (0 < used_at head at) }
-    requires slots_len { length slots.old ≡ cell_room }
-    ensures value { result ≡ left_head head at }
-    ensures slots_after { slots.new ≡ cut_at slots.old at 0 }
+pub fn leave(ring: &mut Ring, at: usize)
+    requires { (at < node_room) × (0 < used_at ring.old.head at) }
+    ensures { ring.new ≡ left ring.old at }
 {
-    let used = head.used[at];
-    cut(slots, at, 0);
-    head.used[at] = used - 1;
-    head
+    cut(&mut ring.slots, at, 0);
+    ring.head.used[at] -= 1;
 }
 
 // Channel `channel` answers with the record: it is carried, and the response joins the sender node's line.
-pub fn respond(
-    mut head: Head,
-    lines: &mut Cells,
-    carried: &mut Records,
-    channel: u8,
-    record: BatchRecord,
-) -> Head
-    requires { CanRespond head channel }
-    ensures { Responded head lines.old carried.old channel «record» result lines.new carried.new }
+pub fn respond(ring: &mut Ring, channel: u8, record: BatchRecord)
+    requires { CanRespond ring.old.head channel }
+    ensures { ring.new ≡ responded ring.old channel «record» }
 {
     let k = channel as usize;
-    set_record(carried, k, record);
-    head.phases[k] = Ring::ANSWERING;
-    let sender = head.senders[k] as usize;
-    join(head, lines, sender, channel + 1)
+    set_record(&mut ring.carried, k, record);
+    ring.head.phases[k] = Ring::ANSWERING;
+    let sender = ring.head.senders[k] as usize;
+    join(ring, sender, channel + 1);
 }

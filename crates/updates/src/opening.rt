@@ -1,10 +1,9 @@
 // What every call asks of its ring before anything else: that it is sound, that it has started or has not, and that the channel or the
 // node of the call is there. A call whose opening is refused answers that refusal.
 ghost use Rattle.std.specs.Prelude.{◌≡◌};
-ghost use Rattle.network.specs.Layout.{ring_in};
 ghost use Rattle.updates.specs.Openings.{before_start, after_start, in_count, opening_of};
 
-use network::{Cells, Head, Records};
+use network::Ring;
 use numbers::{ChannelNo, NodeNo};
 use refusal::{Refusal, Verdict};
 use soundness;
@@ -22,23 +21,16 @@ pub enum Subject {
 }
 
 // The opening of a call about this subject: where it passed, the call goes on.
-pub fn open(
-    head: Head,
-    slots: &Cells,
-    lines: &Cells,
-    offers: &Records,
-    carried: &Records,
-    subject: Subject,
-) -> Verdict
-    ensures { result
-        ≡ opening_of (ring_in head slots.now lines.now offers.now carried.now) subject }
+pub fn open(ring: &Ring, subject: Subject) -> Verdict
+    ensures { result ≡ opening_of ring.now subject }
 {
-    if !soundness::is_sound(head, slots, lines, offers, carried) {
-        return Verdict::Refused(Refusal::UnsoundRing);
+    if !soundness::is_sound(ring) {
+        return Err(Refusal::UnsoundRing);
     }
-    let started = head.started;
-    let nodes = head.node_count;
-    let channels = head.channel_count;
+    let started = ring.head.started;
+    let nodes = ring.head.node_count;
+    let channels = ring.head.channel_count;
+    // A closed list: a match is plainer than a table of functions.
     match subject {
         Subject::Plan => before_start(started),
         Subject::Channel(channel) => after_start(
@@ -57,9 +49,9 @@ fn before_start(started: u8) -> Verdict
     ensures { result ≡ before_start started }
 {
     if started != 0 {
-        return Verdict::Refused(Refusal::AlreadyStarted);
+        return Err(Refusal::AlreadyStarted);
     }
-    Verdict::Passed
+    Ok(())
 }
 
 // The ring has started, and there is one of this number.
@@ -67,7 +59,7 @@ fn after_start(started: u8, count: u8, number: u8, none: Refusal) -> Verdict
     ensures { result ≡ after_start started count number none }
 {
     if started == 0 {
-        return Verdict::Refused(Refusal::NotStarted);
+        return Err(Refusal::NotStarted);
     }
     in_count(count, number, none)
 }
@@ -77,7 +69,7 @@ fn in_count(count: u8, number: u8, none: Refusal) -> Verdict
     ensures { result ≡ in_count count number none }
 {
     if count <= number {
-        return Verdict::Refused(none);
+        return Err(none);
     }
-    Verdict::Passed
+    Ok(())
 }

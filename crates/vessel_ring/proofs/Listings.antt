@@ -4,7 +4,6 @@ use Rattle.std.proofs.lemmas.List.{append-nil}
 use Rattle.report.specs.Line.{line_room}
 use Rattle.network.proofs.Ground.Splits.{by-test}
 use Rattle.runner.specs.declared.Session.{Session}
-use Rattle.runner.specs.declared.Progress.{Progress}
 use Rattle.runner.specs.Session.{beginning}
 use Rattle.runner.specs.Listing.{to_come, listing_of}
 use Rattle.runner.specs.Run.{TapeRan}
@@ -28,17 +27,17 @@ all-written before after left listing written within text full same room =
 
 -- so a run from the beginning lists the tape
 pub listed :
-    {tape before after : List ℕ} {s : Session} {p : Progress} → TapeRan tape s before after p → s ≡ beginning → length after ≡ length before →
-    Listed tape before after p.written
-listed {tape} {before} {after} {s} {p} ran begins same =
-    let text : take p.written after ++ to_come tape p.session ≡ listing_of tape =
+    {tape before after : List ℕ} {s s' : Session} {written : ℕ} → TapeRan tape s before after s' written → s ≡ beginning →
+    length after ≡ length before → Listed tape before after written
+listed {tape} {before} {after} {s} {s'} {written} ran begins same =
+    let text : take written after ++ to_come tape s' ≡ listing_of tape =
     ran.text ∙ ap (to_come tape) begins ∙ from-the-beginning tape in
-    let full = none_left tape p.session (length before) p.written ran.full in
+    let full = none_left tape s' (length before) written ran.full in
     record {
       within = ran.within;
-      left = to_come tape p.session;
+      left = to_come tape s';
       text = text;
       rest = ran.rest;
       full = full;
-      whole = all-written before after (to_come tape p.session) (listing_of tape) p.written ran.within text full same;
+      whole = all-written before after (to_come tape s') (listing_of tape) written ran.within text full same;
     }

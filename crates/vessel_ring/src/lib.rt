@@ -4,9 +4,10 @@
 // listing of a tape and the version of all this. Every function takes every value: no byte of a ring, a table, a record, a command or a tape
 // is trusted, a refusal answers its number and leaves everything as it was.
 //
-// An exported call makes a command or a question of its numbers, hands the ring on to `site`, and tells the reply in numbers. One more takes
-// its maker in `c_structs` and the function here; where its answer has a value that no other has, a field of `AnswerNumbers` of `c_structs`
-// and of the struct that it answers; its prototype in the header, a version and its lines in docs/C-CHANGES.md, and its arm in tests/calls.
+// An exported call makes a command or a question of its numbers, hands the ring on to `site`, and tells the reply in numbers: the C interface
+// needs a function for each call, a number for a refusal, and 1 or 0 for a test. One more takes its maker in `c_structs` and the function
+// here; where its answer has a value that no other has, a struct in `c_structs` and what tells it; its prototype in the header, a version and
+// its lines in docs/C-CHANGES.md, and its arm in tests/calls.
 // One more command of the tape takes nothing here: `commands` of `c_structs` reads the tape's own table.
 #![tactic(auto)]
 
@@ -18,7 +19,7 @@ ghost use Rattle.convert.specs.TurnedRing.{turn_ring};
 ghost use Rattle.convert.specs.TurnedTable.{turn_table};
 ghost use Rattle.history.specs.History as History;
 ghost use Rattle.history.specs.Said.{note_said, close_said};
-ghost use Rattle.network.specs.Answers.{reply_of};
+ghost use Rattle.network.specs.Answers.{number_in, reply_of};
 ghost use Rattle.network.specs.Counting.{one};
 ghost use Rattle.network.specs.Dispatcher.{dispatch_step};
 ghost use Rattle.network.specs.Layout.{fresh_ring, sound_ring, ring_after, answer_to};
@@ -26,7 +27,7 @@ ghost use Rattle.network.specs.Network.{node_no, channel_no};
 ghost use Rattle.network.specs.Runs;
 ghost use Rattle.network.specs.Runs.{after};
 ghost use Rattle.tape.specs.Tape.{read_at};
-ghost use Rattle.c_structs.specs.Answers.{numbers_in, number_to, delivery_to, rounds_to, hops_left_in, waiting_in};
+ghost use Rattle.c_structs.specs.Answers.{number_to, delivery_to, rounds_to, hops_left_in, waiting_in};
 ghost use Rattle.c_structs.specs.Commands.{reading_in, writing_to, after_writing};
 ghost use Rattle.vessel_ring.specs.Listed.{Listed};
 ghost use Rattle.vessel_ring.specs.Version.{version};
@@ -194,7 +195,7 @@ pub extern "C" fn vessel_ring_is_sound(ring: &Ring) -> u8
 #[unsafe(no_mangle)]
 pub extern "C" fn vessel_ring_to_hundredths(ring: &mut Ring) -> u8
     ensures { (ring.new ≡ after ring.old (turn_ring ring.old))
-        × (result ≡ (numbers_in (reply_of (turn_ring ring.old)).answer).refusal) }
+        × (result ≡ number_in (reply_of (turn_ring ring.old))) }
 {
     let reply = convert::rings::turn_ring(ring);
     c_structs::refusal_in(reply)
@@ -218,8 +219,7 @@ pub extern "C" fn vessel_history_note(table: &mut [Row], record: BatchRecord) ->
         × (result ≡ verdict_number (History.note «record» table.old).verdict) }
     ensures said { result ≡ note_said «record» table.old }
 {
-    let verdict = history::note(table, record);
-    verdict.number()
+    refusal::number_in(&history::note(table, record))
 }
 
 #[unsafe(no_mangle)]
@@ -229,8 +229,7 @@ pub extern "C" fn vessel_history_close(table: &mut [Row], batch: u32) -> u8
     ensures said { result ≡ close_said table.old }
 {
     let batch = tables::batch_no(batch);
-    let verdict = history::close(table, batch);
-    verdict.number()
+    refusal::number_in(&history::close(table, batch))
 }
 
 #[unsafe(no_mangle)]
@@ -252,14 +251,13 @@ pub extern "C" fn vessel_history_batch(table: &[Row], row: usize) -> RowBatch
     tables::batch_in(batch)
 }
 
-// A table in tenths of a degree, from before, into hundredths.
+// A table that is held in tenths of a degree into hundredths.
 #[unsafe(no_mangle)]
 pub extern "C" fn vessel_history_to_hundredths(table: &mut [Row]) -> u8
     ensures { (table.new ≡ (turn_table table.old).table)
         × (result ≡ verdict_number (turn_table table.old).verdict) }
 {
-    let verdict = convert::tables::turn_table(table);
-    verdict.number()
+    refusal::number_in(&convert::tables::turn_table(table))
 }
 
 #[unsafe(no_mangle)]
@@ -280,12 +278,10 @@ pub extern "C" fn vessel_tape_write(bytes: &mut [u8], place: usize, command: Com
 
 // Runs a tape from a fresh ring and writes its listing from the beginning of `out`, as many whole lines as have room. Answers how many
 // bytes were written: all of the listing where `out` has room for one line (`report::LINE_ROOM`) more than that.
-#[tactic(auto, using(crate::proofs::Listings::listed))]
 #[unsafe(no_mangle)]
 pub extern "C" fn vessel_ring_list(tape: &[u8], out: &mut [u8]) -> usize
     ensures { Listed tape.now out.old out.new result }
 {
-    let session = Session::begin();
-    let progress = runner::run(tape, session, out);
-    progress.written
+    let mut session = Session::begin();
+    runner::run(tape, &mut session, out)
 }

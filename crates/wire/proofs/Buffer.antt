@@ -1,14 +1,13 @@
 -- Laws of a buffer that bytes are put into: a field writer is lent the part of the buffer from its field on, and what it says of
 -- that part is said of the whole here; one field after another is both at once.
-use Prim.Native.Nat.{ℕ, suc, ◌+◌, ◌-◌, ◌<◌, ◌≤◌}
-use mathlib.Core.Path.{◌≡◌, sym, ap, ◌∙◌}
+use Prim.Native.Nat.{ℕ, ◌+◌, ◌-◌, ◌≤◌}
+use mathlib.Core.Path.{◌≡◌, ap, ◌∙◌}
 use mathlib.Core.List.{List, [], ◌++◌, append_assoc, append-nil}
-use native.Mathlib.Nat.{zero-add, le_refl, le_of_lt}
-use native.Mathlib.Numerals.{add-one}
+use native.Mathlib.Nat.{zero-add, le_refl}
 use native.Mathlib.Omega.{arith}
-use lib.ListN.{length, get_or, set, take, drop, length-append, length-take, length-drop, drop_of_length-le, take-append-drop}
-use lib.Seq.{take-add, take_all, take-length, take-suc, take-append_seam, length-take-le, set_at, append_snoc}
-use lib.Seq.{drop_at, drop-cons, drop-append-add, drop-drop}
+use lib.ListN.{length, take, drop, length-append, length-take, length-drop, drop_of_length-le, take-append-drop}
+use lib.Seq.{take-add, take_all, take-append_seam, length-take-le}
+use lib.Seq.{drop_at, drop-append-add, drop-drop}
 use borrow.Rule.Slice.PartMut.{mid_of, put_mid}
 use Rattle.wire.specs.Bytes.{overwritten}
 
@@ -16,6 +15,10 @@ use Rattle.wire.specs.Bytes.{overwritten}
 pub front : (buffer new : List ℕ) → overwritten buffer 0 new ≡ new ++ drop (length new) buffer
 unfolding overwritten
 front buffer new = rw zero-add
+
+-- what a copy to the front of the buffer leaves
+pub copied_front : (buffer last new : List ℕ) (k : ℕ) → last ≡ new → length new ≡ k → last ++ drop k buffer ≡ overwritten buffer 0 new
+copied_front buffer last new k e long = rw (front buffer new, e, long)
 
 -- putting bytes with room for them keeps the length
 pub length-overwritten : (buffer new : List ℕ) (place : ℕ) → place + length new ≤ length buffer
@@ -68,17 +71,3 @@ pub next : (buffer old last xs ys : List ℕ) → old ≡ overwritten buffer 0 x
     → last ≡ overwritten (mid_of (length xs) (length old - length xs) old) 0 ys
     → back (length xs) old last ≡ overwritten buffer 0 (xs ++ ys)
 next buffer old last xs ys e f = lent old last ys (length xs) f ∙ ap (λ (l : List ℕ). overwritten l (length xs) ys) e ∙ seam buffer xs ys
-
--- a list whose first i elements are copied from another, and one element more
-abbrev pub copied : List ℕ → List ℕ → ℕ → List ℕ
-copied buffer source i = take i source ++ drop i buffer
-
-pub copy-one : (buffer source old : List ℕ) (i : ℕ) → i < length buffer → i < length source → old ≡ copied buffer source i
-    → set old i (get_or source i 0) ≡ copied buffer source (i + 1)
-copy-one buffer source old i b s e =
-    rw (e, add-one, drop-cons buffer i 0, take-suc source i 0)
-    (set_at (take i source) (get_or buffer i 0) (drop (suc i) buffer) (get_or source i 0) i (length-take-le i source (le_of_lt s))
-    ∙ sym (append_snoc (take i source) (get_or source i 0) (drop (suc i) buffer)))
-
-pub copied_all : (buffer source : List ℕ) (n : ℕ) → length source ≡ n → copied buffer source n ≡ overwritten buffer 0 source
-copied_all buffer source n e = rw (front, ← e, take-length source)

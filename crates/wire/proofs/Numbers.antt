@@ -1,31 +1,19 @@
--- Laws of numbers as bytes, over the count of bytes: what `little` writes `number` reads, and the other way, and both go
--- part by part. Two's complement likewise.
+-- Laws of numbers as bytes, over the count of bytes: what `little` writes `number` reads, and the other way; a number is read part by
+-- part, and is written as the library writes it. Two's complement likewise.
 use Prim.Native.Nat.{ℕ, zero, suc, ◌+◌, ◌-◌, ◌*◌, ◌/◌, ◌%◌, ◌^◌, ◌<◌, ◌≤◌}
-use mathlib.Core.Path.{◌≡◌, refl, ap}
+use mathlib.Core.Path.{◌≡◌, refl, sym, ap}
 use mathlib.Core.Bool.{Bool, true, false, cond}
 use mathlib.Core.List.{List, [], ◌∷◌, ◌++◌}
-use native.Mathlib.Nat.{zero-add, suc-add, mul_assoc, pow-suc, pow-succ', one-le-pow, div-div-eq-div-mul, div-one, div-lt_iff_lt-mul}
+use native.Mathlib.Nat.{mul_assoc, pow-suc, pow-succ', div-div-eq-div-mul, div-one, div-lt_iff_lt-mul}
 use native.Mathlib.Omega.{arith}
-use lib.Arith.{mod-mul, digits_div, digits_mod}
 use lib.Dec.{ltb, lit<}
 use lib.IntN.{ℤ, pos, negsuc}
 use lib.Signed.{mag}
 use lib.ListN.{length, get_or, drop, length-drop}
 use lib.Seq.{take-add, drop-drop, drop-cons, length-take-le}
 use borrow.Author.Tests.{lt-ltb, le-ltb}
+use Rattle.std.specs.Int.{bytes_low_first}
 use Rattle.wire.specs.Bytes.{little, number, part, number_at, twos, signed, Bytes, Ends}
-
--- m low bytes, then n more
-pub little-add : (m n x : ℕ) → little m (x % 256 ^ m) ++ little n (x / 256 ^ m) ≡ little (m + n) x
-unfolding little
-little-add zero n x = rw (div-one, zero-add)
-little-add (suc m) n x =
-    let split : x % 256 ^ suc m ≡ (x / 256 % 256 ^ m) * 256 + x % 256
-    = rw pow-suc (mod-mul x (one-le-pow m 256 (lit< tt)) (lit< tt)) in
-    let high : x / 256 ^ suc m ≡ x / 256 / 256 ^ m = rw (pow-succ', div-div-eq-div-mul) in
-    let low : x % 256 < 256 = omega arith in
-    rw (split, high, suc-add, digits_mod (x / 256 % 256 ^ m) low, digits_div (x / 256 % 256 ^ m) low)
-    (ap (λ (l : List ℕ). x % 256 ∷ l) (little-add m n (x / 256)))
 
 -- what was written is read
 pub number-little : (n x : ℕ) → x < 256 ^ n → number (little n x) ≡ x
@@ -70,10 +58,21 @@ pub number-parts : (m n at : ℕ) (bytes : List ℕ) → at + m ≤ length bytes
     → number_at at (m + n) bytes ≡ number_at at m bytes + 256 ^ m * number_at (at + m) n bytes
 number-parts m n at bytes h = rw (take-add, number_append, part_length at m bytes h, drop-drop)
 
--- a number that was read in two parts
-pub number-joined : (m n at : ℕ) (bytes : List ℕ) {low high : ℕ} → low ≡ number_at at m bytes → high ≡ number_at (at + m) n bytes
-    → at + m ≤ length bytes → low + 256 ^ m * high ≡ number_at at (m + n) bytes
-number-joined m n at bytes low high h = rw (low, high, number-parts m n at bytes h)
+-- a number is its first byte and those from the next place on
+pub number-from : (n at next : ℕ) (bytes : List ℕ) → at < length bytes → at + 1 ≡ next
+    → number_at at (1 + n) bytes ≡ get_or bytes at 0 + 256 * number_at next n bytes
+number-from n at next bytes h e = rw (number-parts 1 n at bytes (omega arith), number-one at bytes h, e)
+
+-- what the library writes low byte first
+low-bytes : (n i x : ℕ) → little n (x / 256 ^ i) ≡ bytes_low_first i n x
+unfolding little
+low-bytes zero i x = refl
+low-bytes (suc n) zero x = rw div-one (ap (λ (l : List ℕ). x % 256 ∷ l) (low-bytes n 1 x))
+low-bytes (suc n) (suc i) x =
+    ap (λ (l : List ℕ). x / 256 ^ suc i % 256 ∷ l) (rw (div-div-eq-div-mul, ← (pow-suc 256 (suc i))) (low-bytes n (suc (suc i)) x))
+
+pub little-bytes_low : (n x : ℕ) → bytes_low_first 0 n x ≡ little n x
+little-bytes_low n x = sym (rw div-one at (low-bytes n 0 x))
 
 -- two's complement, there and back
 pub signed-twos : (z : ℤ) → mag z < 32768 → signed (twos z) ≡ z

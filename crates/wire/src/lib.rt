@@ -22,16 +22,13 @@ fn name_at(bytes: &[u8], at: usize) -> [u8; 32]
     requires { at + name_limit ≤ length bytes.now }
     ensures { result ≡ part at name_limit bytes.now }
 {
-    let mut name = [0u8; 32];
-    let mut i = 0;
-    while i < 32 {
-        name[i] = bytes[at + i];
-        i += 1;
-    }
+    let mut name = [0; 32];
+    name.copy_from_slice(&bytes[at..at + 32]);
     name
 }
 
 // The fields of a send that the bytes begin with.
+#[tactic(auto, using(crate::proofs::Twos::passed_on), unfolding(crate::specs::Record::record_in))]
 pub fn fields_in(bytes: &[u8]) -> Fields
     requires { record_length ≤ length bytes.now }
     ensures { result ≡ fields_in bytes.now }
@@ -68,22 +65,12 @@ pub fn record_at(bytes: &[u8], place: usize) -> BatchRecord
     record_in(&bytes[place..])
 }
 
-// Whether the record that the bytes begin with is good: judged in its bytes, without making a record of them.
+// Whether the record that the bytes begin with is good.
 pub fn record_good(bytes: &[u8]) -> bool
     requires { record_length ≤ length bytes.now }
     ensures { result ≡ good_record (record_in bytes.now) }
 {
-    let number = fields::u32_at(bytes, 0);
-    let vessel = fields::u8_at(bytes, 4);
-    let temperature = fields::i16_at(bytes, 5);
-    let name_length = fields::u8_at(bytes, 7);
-    batch::fields_good(
-        number,
-        vessel,
-        temperature,
-        name_length,
-        &bytes[8..RECORD_LENGTH],
-    )
+    batch::is_good(record_in(bytes))
 }
 
 // Puts the bytes of a name at the front of the bytes.
@@ -91,11 +78,7 @@ fn put_name(bytes: &mut [u8], name: [u8; 32])
     requires { name_limit ≤ length bytes.old }
     ensures { bytes.new ≡ overwritten bytes.old 0 name }
 {
-    let mut i = 0;
-    while i < 32 {
-        bytes[i] = name[i];
-        i += 1;
-    }
+    bytes[..32].copy_from_slice(&name);
 }
 
 // Puts the fields of a send at the front of the bytes.
@@ -118,10 +101,11 @@ pub fn put_record(bytes: &mut [u8], record: BatchRecord)
     requires { record_length ≤ length bytes.old }
     ensures { bytes.new ≡ overwritten bytes.old 0 (record_bytes «record») }
 {
-    put_fields(bytes, sending::fields_of(record));
+    put_fields(bytes, Fields::from(record));
 }
 
 // Puts a record at a place, and changes nothing before or past it.
+#[tactic(auto, using(crate::proofs::Buffer::lent))]
 pub fn put_record_at(bytes: &mut [u8], place: usize, record: BatchRecord)
     requires { place + record_length ≤ length bytes.old }
     ensures { bytes.new ≡ overwritten bytes.old place (record_bytes «record») }

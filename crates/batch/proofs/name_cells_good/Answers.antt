@@ -1,29 +1,21 @@
--- The table of places says whether cell `i` is one of the name; each turn settles cell `i`, and at the end none is to come.
-use Rattle.std.proofs.Common.{◌≡◌, length, refl, sym, arith}
-use Rattle.std.proofs.lemmas.Bool.Decides.{nat_tests}
-use Rattle.batch.specs.Good.{is_zero}
-use Rattle.batch.proofs.Name.{good_from-more, good_from-start, good_from-end, turn_end}
-use Rattle.batch.proofs.Places.{counted}
+use Rattle.std.proofs.Common.{inl, inr}
+use Rattle.batch.proofs.Name.{counted-none, counted-more, counted-all}
 use Rattle.batch.proofs.name_cells_good.Goals as goal
 
-pub loop-i-init : goal.loop-i-init
-loop-i-init c = record { within = omega arith; few = omega arith; counted = counted _ refl; so_far = good_from-start _ _ }
+pub loop-cell-init : goal.loop-cell-init
+loop-cell-init c =
+    rw (c.into_iter-cell-iterator.ensures.into_iter_gives, c.zip-cell-items.ensures.first, c.zip-cell-items.ensures.second, c.iter.ensures.rest)
+    (counted-none _ _ c.told-name)
 
-pub loop-i-preserved : goal.loop-i-preserved
-loop-i-preserved c =
-    let l = c.loop-i in
-    let place = l.invariant.counted.at l.i (omega arith) in
-    let turn = good_from-more c.args.length c.args.name.now l.i (omega arith) in
-    record {
-      within = omega arith;
-      few = grind arith;
-      counted = l.invariant.counted;
-      so_far = grind (arith, nat_tests);
-    }
+pub loop-cell-preserved : goal.loop-cell-preserved
+loop-cell-preserved c =
+    let step = c.in-Some.ensures.steps in
+    rw (c.from-wrong.ensures, c.cell_good.ensures, step.1.0)
+    (counted-more _ _ c.loop-cell.invariant step.0 (rw step.1.0 at step.1.1))
 
 pub returns : goal.returns
 returns c =
-    let l = c.loop-i in
-    let cells = c.args.name.now in
-    let end : l.i ≡ length cells = omega arith in
-    sym (turn_end (is_zero l.wrong) _ l.invariant.so_far (rw end (good_from-end _ cells)))
+    elim c.in-None.ensures.steps [
+      | inl e ↦ counted-all _ _ c.loop-cell.invariant (inl e.1.0)
+      | inr e ↦ counted-all _ _ c.loop-cell.invariant (inr e.1.0)
+    ]

@@ -1,15 +1,16 @@
--- What the run kept from zeros on, with its records read, is what the dispatcher answers.
-use Rattle.std.proofs.Common.{ap, ◌∙◌, arith}
-use Rattle.network.specs.Layout.{ring_in}
-use Rattle.dispatch.specs.Log.{Kept, told_from}
-use Rattle.dispatch.proofs.Telling.{count-within, keeps, tells}
+-- A refused opening is the call's refusal, and an open one is what `rounds` asks.
+use Rattle.std.proofs.lemmas.Result.{err_from_is_err_and}
+use Rattle.updates.proofs.Openings.{node-passed}
+use Rattle.dispatch.proofs.Going.{can-begin}
+use Rattle.dispatch.proofs.Course.{not-run}
 use Rattle.dispatch.proofs.dispatch.Goals as goal
 
-pub records_in-records-requires : goal.records_in-records-requires
-records_in-records-requires c =
-    let a = c.args in
-    let many = ap (λ (k : Kept). k.log.count) (keeps a.given _ c.run-run.ensures) in
-    omega (arith, many, count-within a.given (ring_in a.head a.slots.now a.lines.now a.offers.now a.carried.now))
+pub returns-in_err-open : goal.returns-in_err-open
+returns-in_err-open c =
+    let out = err_from_is_err_and c.from_residual.result c.from_residual.ensures.1 in
+    not-run _ _ c.in_err-open.ensures (rw out.2 at out.1)
 
-pub returns : goal.returns
-returns c = rw c.records_in-records.ensures (ap told_from (keeps c.args.given _ c.run-run.ensures) ∙ tells _ _)
+pub rounds-requires : goal.rounds-requires
+rounds-requires c =
+    let there = node-passed _ c.in_ok-open.ensures in
+    can-begin _ there.ok there.going

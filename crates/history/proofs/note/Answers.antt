@@ -1,27 +1,21 @@
--- The pass at its end is the pass over the whole table. What is decided from it, done to the table, is what the definition says; a row that
--- the table does not have is not written.
-use Rattle.std.proofs.Common.{◌∙◌, sym, ap, arith}
-use Rattle.std.proofs.Math.Seq.{set_out}
+-- What is decided from the pass, done to the table, is what the definition says.
+use Rattle.std.proofs.Common.{◌∙◌, ap}
+use Rattle.std.proofs.lemmas.Result.{err_from_is_err_and}
 use Rattle.refusal.specs.Number.{verdict_number}
-use Rattle.history.specs.History.{note}
-use Rattle.history.proofs.Passing.{pass-end, Does, note-passed}
+use Rattle.history.proofs.Passing.{noted}
 use Rattle.history.proofs.Said.{note-said}
 use Rattle.history.proofs.note.Goals as goal
 
-pub returns-then-at-table : goal.returns-then-at-table
-returns-then-at-table c =
-    let x = c.args.record in
-    let t = c.args.table.now in
-    let d = c.to_note-decision.result in
-    let e = pass-end x.batch t c.loop-i.search c.loop-i.i c.loop-i.invariant.0 c.loop-i-test.false c.loop-i.invariant.1 in
-    let done : Does d t (note x t) = rw (c.to_note-decision.ensures, e) (note-passed t (omega arith) x) in
-    record { done = done; said = ap verdict_number done.1 ∙ note-said x t }
+pub returns-in_err-at : goal.returns-in_err-at
+returns-in_err-at c =
+    let out = err_from_is_err_and c.from_residual.result c.from_residual.ensures.1 in
+    let done = noted c.args.table.now c.args.record c.passed-search.ensures c.in_err-at.ensures in
+    rw (out.1, out.2) (record { done = done; said = ap verdict_number done.1 ∙ note-said c.args.record c.args.table.now })
 
-pub returns-else-at-table : goal.returns-else-at-table
-returns-else-at-table c =
-    let x = c.args.record in
-    let t = c.args.table.now in
-    let d = c.to_note-decision.result in
-    let e = pass-end x.batch t c.loop-i.search c.loop-i.i c.loop-i.invariant.0 c.loop-i-test.false c.loop-i.invariant.1 in
-    let done : Does d t (note x t) = rw (c.to_note-decision.ensures, e) (note-passed t (omega arith) x) in
-    record { done = (sym (set_out t d.at d.row c.if-at-table.false) ∙ done.0, done.1); said = ap verdict_number done.1 ∙ note-said x t }
+pub bounds-table-at : goal.bounds-table-at
+bounds-table-at c = (noted c.args.table.now c.args.record c.passed-search.ensures c.in_ok-at.ensures).0
+
+pub returns : goal.returns
+returns c =
+    let done = noted c.args.table.now c.args.record c.passed-search.ensures c.in_ok-at.ensures in
+    record { done = (done.1, done.2); said = ap verdict_number done.2 ∙ note-said c.args.record c.args.table.now }

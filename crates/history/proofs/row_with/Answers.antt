@@ -1,8 +1,6 @@
 -- The cell after the copied ones is the new reading's.
-use Rattle.std.proofs.Common.{arith, take, drop}
+use Rattle.std.proofs.Common.{SFits}
 use mir.Syntax.{w16}
-use Rattle.std.proofs.Math.ListN.{length-drop}
-use Rattle.std.proofs.Math.Seq.{length-take-le}
 use Rattle.std.proofs.lemmas.Int.{to_z-of_z}
 use Rattle.history.proofs.Readings.{row-joined}
 use Rattle.history.proofs.row_with.Goals as goal
@@ -10,8 +8,5 @@ use Rattle.history.proofs.row_with.Goals as goal
 pub returns : goal.returns
 returns c =
     let a = c.args in
-    let s = drop a.first a.cells.now in
-    let long = length-drop a.first a.cells.now in
-    rw (to_z-of_z w16 a.reading c.ranges.reading)
-    (row-joined a.batch (take a.n s) a.n a.reading c.copied-readings.result (length-take-le a.n s (omega arith)) (omega arith)
-    c.copied-readings.ensures)
+    let fits : SFits w16 a.reading = c.ranges.reading in
+    simp to_z-of_z (row-joined a.batch a.before.now a.reading c.copy_from_slice.ensures.after c.requires)

@@ -4,8 +4,8 @@ use mathlib.Core.Path.{◌≡◌, refl}
 use mathlib.Core.Bool.{Bool, true, false}
 use mathlib.Core.List.{[]}
 use Rattle.refusal.specs.declared.Refusal.{Refusal}
-use Rattle.refusal.specs.declared.Verdict.{Verdict}
-use Rattle.refusal.specs.declared.Verdict.TheVariants.{Passed, Refused}
+use Rattle.std.specs.Prelude.{Ok, Err}
+use Rattle.refusal.specs.Number.{Verdict}
 use Rattle.numbers.specs.declared.ChannelNo.{ChannelNo}
 use Rattle.network.specs.Network.{Network}
 use Rattle.network.specs.Calls.{Event, Outcome, refused, accepted, unless, if_good}
@@ -28,9 +28,9 @@ module _ {P : Event → Network → Type 0} where
   after-some f not-done = not-done
   after-some f (was-done h) = was-done (f _ _ h)
 
-  pub if-good : (v : Verdict) (o : Outcome Network) → (v ≡ Passed → After P o) → After P (if_good v o)
-  if-good Passed o h = h refl
-  if-good (Refused r) o h = not-done
+  pub if-good : (v : Verdict) (o : Outcome Network) → (v ≡ Ok tt → After P o) → After P (if_good v o)
+  if-good (Ok u) o h = h refl
+  if-good (Err r) o h = not-done
 
   -- what holds of the ring before, and of the next wherever there is one, holds of the ring that the call leaves
   pub after-all : (Q : Network → Type 0) (σ : Network) {o : Outcome Network} →

@@ -11,14 +11,13 @@ use Rattle.refusal.specs.declared.Refusal.{Refusal}
 use Rattle.hops.specs.Hops.{next}
 use Rattle.network.specs.declared.Ring.{Ring}
 use Rattle.network.specs.declared.Step.{Step}
-use Rattle.network.specs.declared.Reply.{Reply}
 use Rattle.network.specs.Network.{Network, numbers_of, count_of_nodes, node}
 use Rattle.network.specs.Calls.{Outcome, refused, accepted, arrival}
 use Rattle.network.specs.Calls
 use Rattle.network.specs.Runs.{Call, enter, move, call, after, run}
 use Rattle.network.specs.Demand.{checked_call}
 use Rattle.network.specs.Layout.{ring_limits, view, hold, fresh_ring, sound_ring, call_ring}
-use Rattle.network.specs.Answers.{reply_of, delivered_in, Said, answers}
+use Rattle.network.specs.Answers.{Reply, reply_of, delivered_in, Said, answers}
 use Rattle.network.specs.Promise.{MeetsContracts}
 use Rattle.network.specs.Dispatch.{listed}
 use Rattle.network.specs.Worked.Edges.{n0, n1, n2}

@@ -2,7 +2,8 @@
 -- the ring in memory is demand 3 of the code.
 use mathlib.Core.Path.{◌≡◌, refl, sym, ap, subst, ◌∙◌}
 use mathlib.Core.Logic.{◌≢◌}
-use Rattle.batch.specs.Blank.{no_record}
+use Rattle.std.specs.Prelude.{Err}
+use Rattle.refusal.specs.declared.Refusal.{Refusal}
 use Rattle.network.specs.declared.Ring.{Ring}
 use Rattle.network.specs.declared.Step.{Step}
 use Rattle.network.specs.Calls.{done, delivered, hops_are, waiting_are, Outcome, refused, accepted}
@@ -15,9 +16,9 @@ use Rattle.network.proofs.Promises.Answers.{steps-keep}
 use Rattle.network.proofs.Promises.Demand.{ring-refuses-unsound, ring-safe, ring-demand3}
 
 -- a step that is promised, and that has a number, is a refusal
-step-leaves : (ring : Ring) (o : Outcome Ring) → number_in (step_of ring o).reply.answer ≢ 0 →
-    ((step_of ring o).ring ≡ ring) × ((step_of ring o).reply.delivered ≡ no_record)
-step-leaves ring (refused r) numbered = (refl, refl)
+step-leaves : (ring : Ring) (o : Outcome Ring) → number_in (step_of ring o).reply ≢ 0 →
+    ((step_of ring o).ring ≡ ring) × ((r : Refusal) × ((step_of ring o).reply ≡ Err r))
+step-leaves ring (refused r) numbered = (refl, (r, refl))
 step-leaves ring (accepted done s) numbered = absurd (numbered refl)
 step-leaves ring (accepted (delivered k x) s) numbered = absurd (numbered refl)
 step-leaves ring (accepted (hops_are h) s) numbered = absurd (numbered refl)
@@ -27,12 +28,12 @@ module _ (code : Call → Ring → Step) (meets : MeetsContracts code) where
   pub returned-is : returned code ≡ call_ring
   returned-is = λ i a ring. (ap outcome_of (meets a ring) ∙ steps-keep ring (call_ring a ring)) i
 
-  leaves : (a : Call) (ring : Ring) → number_in (code a ring).reply.answer ≢ 0 → ChangesNothing code a ring
+  leaves : (a : Call) (ring : Ring) → number_in (code a ring).reply ≢ 0 → ChangesNothing code a ring
   leaves a ring numbered =
-      let kept = step-leaves ring (call_ring a ring) (subst (λ s. number_in s.reply.answer ≢ 0) (meets a ring) numbered) in
+      let kept = step-leaves ring (call_ring a ring) (subst (λ s. number_in s.reply ≢ 0) (meets a ring) numbered) in
       record {
         ring-as-before = ap (λ s. s.ring) (meets a ring) ∙ kept.0;
-        record-blank = ap (λ s. s.reply.delivered) (meets a ring) ∙ kept.1;
+        refusal-alone = (kept.1.0, ap (λ s. s.reply) (meets a ring) ∙ kept.1.1);
       }
 
   promised : Promised code

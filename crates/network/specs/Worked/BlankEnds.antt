@@ -3,7 +3,7 @@
 use Rattle.std.specs.Prelude.{ℕ, ◌-◌, ◌≡◌, ◌⊎◌, Bool, true, false, not, List, [], ◌∷◌, ◌++◌, map, pos, length, replicate}
 use Rattle.std.proofs.Math.Option.{none, some}
 use Rattle.refusal.specs.declared.Refusal.TheVariants.{BlankEnd}
-use Rattle.refusal.specs.declared.Verdict.TheVariants.{Refused}
+use Rattle.std.specs.Prelude.{Err}
 use Rattle.batch.specs.declared.BatchRecord.{BatchRecord}
 use Rattle.batch.specs.Good.{every, blank_ends, send_verdict}
 use Rattle.numbers.specs.declared.ChannelNo.{ChannelNo}
@@ -119,14 +119,14 @@ pub record HoldsAsWell (ring : Ring) (k : ChannelNo) (x : BatchRecord) : Type 0 
 abbrev pub StillSound : Type 0
 StillSound =
     (ring : Ring) (k : ChannelNo) (x : BatchRecord) →
-    sound_ring ring ≡ true → (view ring).started ≡ true → is_channel (view ring) k ≡ true → send_verdict x ≡ Refused BlankEnd →
+    sound_ring ring ≡ true → (view ring).started ≡ true → is_channel (view ring) k ≡ true → send_verdict x ≡ Err BlankEnd →
     HoldsAsWell ring k x
 
 -- It is delivered as it is: demand 3's `Served` of a matched record that send refuses with 30.
 abbrev pub StillServed : Type 0
 StillServed =
     (ring : Ring) (m : ChannelNo) (x : BatchRecord) (calls : List Call) →
-    sound_ring ring ≡ true → (view ring).started ≡ true → matched (view ring) m ≡ some x → send_verdict x ≡ Refused BlankEnd →
+    sound_ring ring ≡ true → (view ring).started ≡ true → matched (view ring) m ≡ some x → send_verdict x ≡ Err BlankEnd →
     withdrawn m (deeds call_ring calls ring) ≡ false →
     InTime fresh_ring sound_ring view call_ring ring m x calls ⊎ UnderWay fresh_ring sound_ring view call_ring ring m calls
 

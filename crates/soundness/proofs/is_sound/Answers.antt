@@ -1,68 +1,90 @@
--- Its tests are the parts of `Fits`, and a ring fits exactly when it is sound.
-use Rattle.std.proofs.Common.{◌≡◌, refl, rules, Bool, false}
+-- Its tests are the parts of `Fits`, made one after the other, and a ring fits exactly when it is sound.
+use Rattle.std.proofs.Common.{◌≡◌, Bool, refl}
 use Rattle.network.specs.declared.Ring.{Ring}
-use Rattle.network.specs.Layout.{sound_ring, ring_in}
-use Rattle.network.proofs.Ground.Splits.{both_ways}
+use Rattle.network.specs.Layout.{sound_ring}
 use Rattle.network.proofs.Memory.Held.{sound-ring}
-use Rattle.soundness.specs.Fits.{Fits}
+use Rattle.soundness.specs.Fits.{Fits, CountsFit, NodesFit, ChannelsFit, RecordsFit, StartFits}
 use Rattle.messages.specs.Decides.{Decides}
-use Rattle.messages.proofs.Decides.{same_test, restated}
-use Rattle.soundness.proofs.View.{Whole}
+use Rattle.messages.specs.Messages.{MessagesFit}
+use Rattle.messages.proofs.Decides.{both-pass, first-fails, same_test}
 use Rattle.soundness.proofs.FitsSound.{fits-sound}
 use Rattle.soundness.proofs.SoundFits.{sound-fits}
 use Rattle.soundness.proofs.is_sound.Goals as goal
+use Rattle.soundness.proofs.is_sound.Goals.{then-counts_fit, else-counts_fit, then-nodes_fit, else-nodes_fit, then-channels_fit, else-channels_fit, then-records_fit, else-records_fit}
 
-unsound : (ring : Ring) → (Fits ring → ⊥) → false ≡ sound_ring ring
-unsound ring none =
-    same_test (λ e. both_ways e refl) (λ e. absurd (none (sound-fits ring (sound-ring ring e))))
+-- the parts as far as a test has come
+module _ (ring : Ring) where
+  abbrev Nodes : Type 0
+  Nodes = CountsFit ring.head × NodesFit ring.head
 
-sound-exactly : (ring : Ring) {r : Bool} → Whole ring.head → Decides r (Fits ring) → r ≡ sound_ring ring
-sound-exactly ring whole d =
-    same_test (λ e. fits-sound ring (d.holds e) whole) (λ e. d.passes (sound-fits ring (sound-ring ring e)))
+  abbrev Channels : Type 0
+  Channels = Nodes × ChannelsFit ring.head
 
-pub returns-then-not-counts_fit : goal.returns-then-not-counts_fit
-returns-then-not-counts_fit c =
-    unsound _ (λ f. both_ways (c.counts_fit.ensures.passes f.counts) c.if-not-counts_fit.true)
+  abbrev Records : Type 0
+  Records = Channels × RecordsFit ring
 
-pub returns-then-not-nodes_fit : goal.returns-then-not-nodes_fit
-returns-then-not-nodes_fit c =
-    unsound _ (λ f. both_ways (c.nodes_fit.ensures.passes f.nodes) c.if-not-nodes_fit.true)
+  abbrev Messages : Type 0
+  Messages = Records × MessagesFit ring
 
-pub returns-then-not-channels_fit : goal.returns-then-not-channels_fit
-returns-then-not-channels_fit c =
-    unsound _ (λ f. both_ways (c.channels_fit.ensures.passes f.channels) c.if-not-channels_fit.true)
+  all_parts : Messages × StartFits ring.head → Fits ring
+  all_parts p =
+      let m = p.0 in
+      let r = m.0 in
+      let c = r.0 in
+      record { counts = c.0.0; nodes = c.0.1; channels = c.1; records = r.1; messages = m.1; start = p.1 }
 
-pub returns-then-not-records_fit : goal.returns-then-not-records_fit
-returns-then-not-records_fit c =
-    unsound _ (λ f. both_ways (c.records_fit.ensures.passes f.records) c.if-not-records_fit.true)
+  parted : Fits ring → Messages × StartFits ring.head
+  parted f = (((((f.counts, f.nodes), f.channels), f.records), f.messages), f.start)
 
-pub returns-then-not-messages_fit : goal.returns-then-not-messages_fit
-returns-then-not-messages_fit c =
-    unsound _ (λ f. both_ways (c.messages_fit.ensures.passes f.messages) c.if-not-messages_fit.true)
+  sound-exactly : {r : Bool} → Decides r (Messages × StartFits ring.head) → r ≡ sound_ring ring
+  sound-exactly d =
+      same_test (λ e. fits-sound ring (all_parts (d.holds e)))
+      (λ e. d.passes (parted (sound-fits ring (sound-ring ring e))))
 
-pub returns : goal.returns
-returns c =
-    -- what the types say of the head
-    let whole : Whole c.args.head =
-    record {
-      capacity = search rules;
-      used = search rules;
-      waiting = search rules;
-      marks = search rules;
-      senders = search rules;
-      receivers = search rules;
-      phases = search rules;
-      offered = search rules;
-      deliveries = search rules;
-    } in
-    sound-exactly (ring_in c.args.head c.args.slots.now c.args.lines.now c.args.offers.now c.args.carried.now) whole
-    (restated
-    (λ start. record {
-      counts = c.counts_fit.ensures.holds c.if-not-counts_fit.false;
-      nodes = c.nodes_fit.ensures.holds c.if-not-nodes_fit.false;
-      channels = c.channels_fit.ensures.holds c.if-not-channels_fit.false;
-      records = c.records_fit.ensures.holds c.if-not-records_fit.false;
-      messages = c.messages_fit.ensures.holds c.if-not-messages_fit.false;
-      start = start;
-    })
-    (λ f. f.start) c.start_fits.ensures)
+pub returns-then-messages_fit : goal.returns-then-messages_fit
+returns-then-messages_fit c =
+    let nodes : Decides c.if-counts_fit.value (Nodes c.args.ring.now) =
+    elim c.if-counts_fit.branch [
+      | then-counts_fit w ↦ both-pass c.counts_fit.ensures w.nodes_fit.ensures w.if-counts_fit.true w.value-is
+      | else-counts_fit w ↦ first-fails c.counts_fit.ensures w.if-counts_fit.false w.value-is
+    ] in
+    let channels : Decides c.if-nodes_fit.value (Channels c.args.ring.now) =
+    elim c.if-nodes_fit.branch [
+      | then-nodes_fit w ↦ both-pass nodes w.channels_fit.ensures w.if-nodes_fit.true w.value-is
+      | else-nodes_fit w ↦ first-fails nodes w.if-nodes_fit.false w.value-is
+    ] in
+    let records : Decides c.if-channels_fit.value (Records c.args.ring.now) =
+    elim c.if-channels_fit.branch [
+      | then-channels_fit w ↦ both-pass channels w.records_fit.ensures w.if-channels_fit.true w.value-is
+      | else-channels_fit w ↦ first-fails channels w.if-channels_fit.false w.value-is
+    ] in
+    let messages : Decides c.if-records_fit.value (Messages c.args.ring.now) =
+    elim c.if-records_fit.branch [
+      | then-records_fit w ↦ both-pass records w.messages_fit.ensures w.if-records_fit.true w.value-is
+      | else-records_fit w ↦ first-fails records w.if-records_fit.false w.value-is
+    ] in
+    sound-exactly c.args.ring.now (both-pass messages c.start_fits.ensures c.if-messages_fit.true refl)
+
+pub returns-else-messages_fit : goal.returns-else-messages_fit
+returns-else-messages_fit c =
+    let nodes : Decides c.if-counts_fit.value (Nodes c.args.ring.now) =
+    elim c.if-counts_fit.branch [
+      | then-counts_fit w ↦ both-pass c.counts_fit.ensures w.nodes_fit.ensures w.if-counts_fit.true w.value-is
+      | else-counts_fit w ↦ first-fails c.counts_fit.ensures w.if-counts_fit.false w.value-is
+    ] in
+    let channels : Decides c.if-nodes_fit.value (Channels c.args.ring.now) =
+    elim c.if-nodes_fit.branch [
+      | then-nodes_fit w ↦ both-pass nodes w.channels_fit.ensures w.if-nodes_fit.true w.value-is
+      | else-nodes_fit w ↦ first-fails nodes w.if-nodes_fit.false w.value-is
+    ] in
+    let records : Decides c.if-channels_fit.value (Records c.args.ring.now) =
+    elim c.if-channels_fit.branch [
+      | then-channels_fit w ↦ both-pass channels w.records_fit.ensures w.if-channels_fit.true w.value-is
+      | else-channels_fit w ↦ first-fails channels w.if-channels_fit.false w.value-is
+    ] in
+    let messages : Decides c.if-records_fit.value (Messages c.args.ring.now) =
+    elim c.if-records_fit.branch [
+      | then-records_fit w ↦ both-pass records w.messages_fit.ensures w.if-records_fit.true w.value-is
+      | else-records_fit w ↦ first-fails records w.if-records_fit.false w.value-is
+    ] in
+    sound-exactly c.args.ring.now (first-fails messages c.if-messages_fit.false refl)

@@ -1,14 +1,10 @@
 -- For each shape, its operands follow the command byte.
 use Rattle.std.proofs.Common.{◌++◌, ◌∙◌}
-use Rattle.wire.specs.Bytes.{little, overwritten}
+use Rattle.wire.specs.Bytes.{little}
 use Rattle.wire.specs.Record.{field_bytes}
 use Rattle.wire.proofs.Buffer.{next}
 use Rattle.tape.specs.Shape.{bytes_with}
 use Rattle.tape.proofs.put_command.Goals as goal
-
-pub returns-in-Unknown : goal.returns-in-Unknown
-unfolding bytes_with overwritten
-returns-in-Unknown c = rw c.in-Unknown.is
 
 pub returns-in-Bare : goal.returns-in-Bare
 unfolding bytes_with

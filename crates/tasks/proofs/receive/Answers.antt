@@ -1,31 +1,31 @@
 -- `tasks::receive` meets its contract: each return carries what the tests showed to the law of its case.
+use Rattle.std.proofs.Common.{refl}
 use Rattle.network.specs.Runs
-use Rattle.updates.proofs.Openings.{turns-away, channel-passed, refuses}
+use Rattle.updates.proofs.Openings.{passed-on, turns-away, channel-passed, refuses, accepts}
 use Rattle.updates.proofs.Reading.{channel-within}
-use Rattle.tasks.proofs.Offers.{receive-busy, receive-room, request-made}
+use Rattle.tasks.proofs.Offers.{receive-busy, receive-room, receive-done}
 use Rattle.tasks.proofs.receive.Goals as goal
 
-pub returns-in-Refused : goal.returns-in-Refused
-returns-in-Refused c = turns-away (Runs.receive _) _ c.open-opening.ensures c.in-Refused.is c.refuse.ensures
+pub returns-in_err-open : goal.returns-in_err-open
+returns-in_err-open c =
+    turns-away (Runs.receive _) _ c.in_err-open.ensures (passed-on c.from_residual.ensures.1)
 
-pub bounds-head-k : goal.bounds-head-k
-bounds-head-k c = channel-within (channel-passed _ c.open-opening.ensures c.in_default.is)
+pub bounds-ring-k : goal.bounds-ring-k
+bounds-ring-k c = channel-within (channel-passed _ c.in_ok-open.ensures)
 
-pub returns-then-phase-ne-RESTING : goal.returns-then-phase-ne-RESTING
-returns-then-phase-ne-RESTING c =
-    let h = channel-passed _ c.open-opening.ensures c.in_default.is in
-    refuses _ (receive-busy h c.if-phase-ne-RESTING.true) c.refuse-then-phase-ne-RESTING.ensures
+pub returns-then-ring-k-ne-RESTING : goal.returns-then-ring-k-ne-RESTING
+returns-then-ring-k-ne-RESTING c =
+    refuses _ (receive-busy (channel-passed _ c.in_ok-open.ensures) c.if-ring-k-ne-RESTING.true) refl
 
-pub bounds-head-k-2 : goal.bounds-head-k-2
-bounds-head-k-2 c = channel-within (channel-passed _ c.open-opening.ensures c.in_default.is)
+pub bounds-ring-k-2 : goal.bounds-ring-k-2
+bounds-ring-k-2 c = channel-within (channel-passed _ c.in_ok-open.ensures)
 
-pub bounds-head-k-3 : goal.bounds-head-k-3
-bounds-head-k-3 c = channel-within (channel-passed _ c.open-opening.ensures c.in_default.is)
+pub bounds-ring-k-3 : goal.bounds-ring-k-3
+bounds-ring-k-3 c = channel-within (channel-passed _ c.in_ok-open.ensures)
 
-pub join-asking-requires : goal.join-asking-requires
-join-asking-requires c = receive-room (channel-passed _ c.open-opening.ensures c.in_default.is) c.if-phase-ne-RESTING.false
+pub join-requires : goal.join-requires
+join-requires c = receive-room (channel-passed _ c.in_ok-open.ensures) c.if-ring-k-ne-RESTING.false
 
 pub returns : goal.returns
 returns c =
-    let h = channel-passed _ c.open-opening.ensures c.in_default.is in
-    request-made h c.if-phase-ne-RESTING.false c.join-asking.ensures.value c.join-asking.ensures.lines_after c.accept.ensures
+    rw c.join.ensures (accepts _ (receive-done (channel-passed _ c.in_ok-open.ensures) c.if-ring-k-ne-RESTING.false))

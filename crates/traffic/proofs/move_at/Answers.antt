@@ -2,23 +2,23 @@
 use Rattle.std.proofs.Common.{refl}
 use Rattle.updates.proofs.Openings.{refuses}
 use Rattle.updates.proofs.Reading.{node-within}
-use Rattle.traffic.proofs.Move.{move-empty, cell-used, cell-within}
+use Rattle.traffic.proofs.Move.{move-empty, leaves-first, cell-used, cell-within}
 use Rattle.traffic.proofs.move_at.Goals as goal
 
-pub bounds-head-p : goal.bounds-head-p
-bounds-head-p c = node-within c.requires
+pub bounds-ring-p : goal.bounds-ring-p
+bounds-ring-p c = node-within c.requires
 
-pub returns-then-used-eq0 : goal.returns-then-used-eq0
-returns-then-used-eq0 c = refuses _ (move-empty c.requires c.if-used-eq0.true) c.refuse.ensures
+pub returns-then-ring-p-eq0 : goal.returns-then-ring-p-eq0
+returns-then-ring-p-eq0 c = refuses _ (move-empty c.requires c.if-ring-p-eq0.true) refl
 
 pub overflow_sub-k : goal.overflow_sub-k
-overflow_sub-k c = cell-used (record { at-node = c.requires; some = c.if-used-eq0.false; first = refl })
+overflow_sub-k c = cell-used (leaves-first c.requires c.if-ring-p-eq0.false)
 
-pub bounds-head-k : goal.bounds-head-k
-bounds-head-k c = cell-within (record { at-node = c.requires; some = c.if-used-eq0.false; first = refl })
+pub bounds-ring-k : goal.bounds-ring-k
+bounds-ring-k c = cell-within (leaves-first c.requires c.if-ring-p-eq0.false)
 
-pub bounds-head-k-2 : goal.bounds-head-k-2
-bounds-head-k-2 c = cell-within (record { at-node = c.requires; some = c.if-used-eq0.false; first = refl })
+pub bounds-ring-k-2 : goal.bounds-ring-k-2
+bounds-ring-k-2 c = cell-within (leaves-first c.requires c.if-ring-p-eq0.false)
 
-pub bounds-head-k-3 : goal.bounds-head-k-3
-bounds-head-k-3 c = cell-within (record { at-node = c.requires; some = c.if-used-eq0.false; first = refl })
+pub bounds-ring-k-3 : goal.bounds-ring-k-3
+bounds-ring-k-3 c = cell-within (leaves-first c.requires c.if-ring-p-eq0.false)

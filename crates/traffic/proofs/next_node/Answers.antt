@@ -6,5 +6,5 @@ use Rattle.traffic.proofs.next_node.Goals as goal
 pub returns-then-after-count : goal.returns-then-after-count
 returns-then-after-count c = grind (arith, next-cases c.args.count c.args.p)
 
-pub returns : goal.returns
-returns c = grind (arith, next-cases c.args.count c.args.p)
+pub returns-else-after-count : goal.returns-else-after-count
+returns-else-after-count c = grind (arith, next-cases c.args.count c.args.p)

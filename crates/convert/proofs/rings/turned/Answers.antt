@@ -44,22 +44,19 @@ module _ (ring : Ring) (h : InBytes ring) where
 pub returns-then-not-turn_records : goal.returns-then-not-turn_records
 returns-then-not-turn_records c =
     let h : InBytes c.args.ring = search rules in
-    c.answered.ensures
-    ∙ refuses c.args.ring h c.if-not-turn_records.true (λ ok. c.turn_records.ensures.0 ∙ offers-told c.args.ring h ok)
+    refuses c.args.ring h c.if-not-turn_records.true (λ ok. c.turn_records.ensures.0 ∙ offers-told c.args.ring h ok)
 
 pub returns-then-not-turn_records-2 : goal.returns-then-not-turn_records-2
 returns-then-not-turn_records-2 c =
     let h : InBytes c.args.ring = search rules in
-    c.answered-then-not-turn_records-2.ensures
-    ∙ refuses c.args.ring h c.if-not-turn_records-2.true (λ ok. c.turn_records-2.ensures.0 ∙ carried-told c.args.ring h ok)
+    refuses c.args.ring h c.if-not-turn_records-2.true (λ ok. c.turn_records-2.ensures.0 ∙ carried-told c.args.ring h ok)
 
 pub returns-then-not-is_sound : goal.returns-then-not-is_sound
 returns-then-not-is_sound c =
     let ring : Ring = c.args.ring in
     let h : InBytes ring = search rules in
     let is-made = left ring h c.turn_records.ensures.1 c.turn_records-2.ensures.1 in
-    c.answered-then-not-is_sound.ensures
-    ∙ refuses ring h c.if-not-is_sound.true (λ ok. c.is_sound.ensures ∙ ap sound_ring is-made ∙ made-sound ring h ok)
+    refuses ring h c.if-not-is_sound.true (λ ok. c.is_sound.ensures ∙ ap sound_ring is-made ∙ made-sound ring h ok)
 
 pub returns : goal.returns
 returns c =
@@ -69,7 +66,6 @@ returns c =
     let offers-in = sym c.turn_records.ensures.0 ∙ c.if-not-turn_records.false in
     let carried-in = sym c.turn_records-2.ensures.0 ∙ c.if-not-turn_records-2.false in
     let ok = sym (c.is_sound.ensures ∙ ap sound_ring is-made) ∙ c.if-not-is_sound.false in
-    c.answered-2.ensures
-    ∙ ap (λ r. step_of ring (accepted done r)) is-made
+    ap (λ r. step_of ring (accepted done r)) is-made
     ∙ sym (ap (step_of ring)
     (ring-turned ring h.offers-whole h.offer-bytes h.carried-whole h.carried-bytes offers-in carried-in ok))

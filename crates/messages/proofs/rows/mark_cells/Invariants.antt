@@ -1,10 +1,6 @@
 -- What the cells to come do from the table as it is is what all the cells do from the table at first.
-use Rattle.std.proofs.Common.{◌-◌, length}
 use Rattle.messages.proofs.RowPass.{Passing}
 use Rattle.messages.proofs.rows.mark_cells.Given as goal
 
-abbrev pub invariant-loop-i : goal.invariant-loop-i
-invariant-loop-i l = Passing l.channel_count l.place l.cells l.fn.stands l.i l.stands
-
-abbrev pub decreases-loop-i : goal.decreases-loop-i
-decreases-loop-i l = length l.cells - l.i
+abbrev pub invariant-loop-number : goal.invariant-loop-number
+invariant-loop-number l = Passing l.head l.place l.cells l.fn.met l.number-index l.met

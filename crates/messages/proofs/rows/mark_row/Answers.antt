@@ -1,7 +1,7 @@
 -- The count of the cells in use, then the pass over them.
 use Rattle.std.proofs.Common.{◌≡◌, sym, ◌∙◌, arith}
 use lib.Seq.{length-take-le}
-use Rattle.messages.specs.RowPass.{cells_in_use}
+use Rattle.messages.specs.Messages.{cells_in_use}
 use Rattle.messages.proofs.RowPass.{in-use-most, row-right, row-wrong, says-stopped}
 use Rattle.messages.proofs.rows.mark_row.Goals as goal
 

@@ -1,5 +1,4 @@
 use Rattle.std.proofs.Common.{refl, ◌∙◌}
-use borrow.Author.Tests.{not-false}
 use Rattle.run_tape.proofs.Printed.{begins, goes_on, whole}
 use Rattle.run_tape.proofs.console.print_listing.Goals as goal
 
@@ -8,9 +7,9 @@ loop-session-init g c = (refl, rw c.begin-session.ensures (begins _ _))
 
 pub loop-session-preserved : goal.loop-session-preserved
 loop-session-preserved g c = (
-  c.run-progress.auto.out ∙ c.loop-session.invariant.0,
-  goes_on _ c.loop-session.invariant.1 c.run-progress.ensures.text c.in_ok-write_all.ensures.bytes,
+  c.run-written.auto.out ∙ c.loop-session.invariant.0,
+  goes_on _ c.loop-session.invariant.1 c.run-written.ensures.text c.in_ok-write_all.ensures.bytes,
 )
 
 pub returns : goal.returns
-returns g c = whole c.loop-session.invariant.1 (not-false _ c.loop-session-test.false)
+returns g c = whole c.loop-session.invariant.1 c.loop-session-test.false

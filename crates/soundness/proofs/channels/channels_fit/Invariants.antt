@@ -1,5 +1,5 @@
 -- The loop counts the channels that do not fit (proofs/InUse).
-use Rattle.std.proofs.Common.{ℕ, Bool, List, get_or, ◌-◌}
+use Rattle.std.proofs.Common.{ℕ, Bool, List, get_or}
 use Rattle.network.specs.Layout.{channel_room}
 use Rattle.soundness.specs.Fits.{ChannelFits}
 use Rattle.soundness.proofs.InUse.{CountingUsed}
@@ -11,7 +11,4 @@ ChannelAt started nodes senders receivers phases offered in_use k =
 
 abbrev pub invariant-loop-k : goal.invariant-loop-k
 invariant-loop-k l =
-    CountingUsed (ChannelAt l.started l.nodes l.senders l.receivers l.phases l.offered) l.count channel_room l.places l.wrong l.k
-
-abbrev pub decreases-loop-k : goal.decreases-loop-k
-decreases-loop-k l = channel_room - l.k
+    CountingUsed (ChannelAt l.started l.head.node_count l.head.senders l.head.receivers l.head.phases l.head.offered) l.head.channel_count channel_room l.places l.wrong l.k

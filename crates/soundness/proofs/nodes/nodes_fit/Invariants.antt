@@ -1,5 +1,5 @@
 -- The loop counts the nodes that do not fit (proofs/InUse).
-use Rattle.std.proofs.Common.{ℕ, Bool, List, get_or, ◌-◌}
+use Rattle.std.proofs.Common.{ℕ, Bool, List, get_or}
 use Rattle.network.specs.Layout.{node_room}
 use Rattle.soundness.specs.Fits.{NodeFits}
 use Rattle.soundness.proofs.InUse.{CountingUsed}
@@ -11,7 +11,4 @@ NodeAt started capacity used waiting marks in_use p =
 
 abbrev pub invariant-loop-p : goal.invariant-loop-p
 invariant-loop-p l =
-    CountingUsed (NodeAt l.started l.capacity l.used l.waiting l.marks) l.count node_room l.places l.wrong l.p
-
-abbrev pub decreases-loop-p : goal.decreases-loop-p
-decreases-loop-p l = node_room - l.p
+    CountingUsed (NodeAt l.started l.head.capacity l.head.used l.head.waiting l.head.marks) l.head.node_count node_room l.places l.wrong l.p

@@ -1,5 +1,5 @@
 -- The loop counts the records that do not fit (messages/proofs/Loops).
-use Rattle.std.proofs.Common.{ℕ, List, get_or, ◌-◌}
+use Rattle.std.proofs.Common.{ℕ, List, get_or}
 use lib.Dec.{eqb}
 use Rattle.wire.specs.Record.{record_length}
 use Rattle.network.specs.Layout.{row}
@@ -12,6 +12,3 @@ RecordAt states state records k = BytesFit (eqb (get_or states k 0) state) (row 
 
 abbrev pub invariant-loop-k : goal.invariant-loop-k
 invariant-loop-k l = Counting (RecordAt l.states l.with l.records) l.count l.wrong l.k
-
-abbrev pub decreases-loop-k : goal.decreases-loop-k
-decreases-loop-k l = l.count - l.k

@@ -1,12 +1,8 @@
-use Rattle.std.proofs.Common.{◌≡◌, sym, ◌∙◌, arith}
-use Rattle.batch.specs.Good.{every, is_zero}
-use Rattle.network.specs.Layout.{row}
+use Rattle.std.proofs.Common.{sym, ◌∙◌}
 use Rattle.soundness.proofs.RecordBytes.{word-passed}
-use Rattle.messages.proofs.Zeros.{part-is-row}
 use Rattle.soundness.proofs.records.record_blank.Goals as goal
 
 pub loop-word-preserved : goal.loop-word-preserved
 loop-word-preserved c =
-    let said : every is_zero (row 8 c.args.bytes.now c.loop-word.word) ≡ c.all_zero.result =
-    sym (rw (part-is-row 8 c.args.bytes.now c.loop-word.word) at c.all_zero.ensures) in
-    (omega arith, word-passed 8 c.args.bytes.now c.loop-word.word c.loop-word.invariant.1 (said ∙ c.if-not-all_zero.false))
+    let step = c.in-Some.ensures.steps in
+    word-passed c.loop-word.invariant c.in-Some.word.now c.next.new.self.rest.now step.1.0 step.1.1 step.0 (sym c.all_zero.ensures ∙ c.if-not-all_zero.false)

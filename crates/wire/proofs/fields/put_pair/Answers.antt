@@ -1,8 +1,11 @@
--- The second byte goes to the part that is lent.
+use Rattle.std.proofs.Common.{◌≡◌, ◌%◌, refl, arith}
 use Rattle.wire.specs.Bytes.{little}
-use Rattle.wire.proofs.Buffer.{next}
+use Rattle.wire.proofs.Buffer.{copied_front}
 use Rattle.wire.proofs.fields.put_pair.Goals as goal
 
 pub returns : goal.returns
 unfolding little
-returns c = next _ _ _ (little 1 c.args.first) (little 1 c.args.second) c.put_u8.ensures c.put_u8-2.ensures
+returns c =
+    let first : c.args.first % 256 ≡ c.args.first = omega arith in
+    let second : c.args.second % 256 ≡ c.args.second = omega arith in
+    rw (first, second) (copied_front _ _ _ 2 c.copy_from_slice.ensures.after refl)

@@ -1,8 +1,10 @@
--- The low byte, and then the high one.
-use Rattle.std.proofs.Common.{ap, ◌∙◌}
-use Rattle.wire.specs.Bytes.{overwritten}
-use Rattle.wire.proofs.Numbers.{little-add}
+use Rattle.std.proofs.Common.{refl, ◌∙◌}
+use Rattle.wire.specs.Bytes.{little}
+use Rattle.wire.proofs.Numbers.{little-bytes_low}
+use Rattle.wire.proofs.Buffer.{copied_front}
 use Rattle.wire.proofs.fields.put_u16.Goals as goal
 
 pub returns : goal.returns
-returns c = c.put_pair.ensures ∙ ap (overwritten c.args.bytes.now 0) (little-add 1 1 c.args.value)
+unfolding little
+returns c =
+    copied_front _ _ _ 2 (c.copy_from_slice.ensures.after ∙ c.to_le_bytes.ensures ∙ little-bytes_low 2 c.args.value) refl

@@ -1,7 +1,12 @@
--- A low byte and a high one.
-use Rattle.std.proofs.Common.{arith}
-use Rattle.wire.proofs.Numbers.{number-joined}
+-- Byte by byte.
+use Rattle.std.proofs.Common.{◌+◌, arith}
+use Rattle.wire.proofs.Numbers.{number-one, number-from}
 use Rattle.wire.proofs.fields.u16_at.Goals as goal
 
 pub returns : goal.returns
-returns c = number-joined 1 1 c.args.at c.args.bytes.now c.u8_at-low.ensures c.u8_at-high.ensures (omega arith)
+returns c =
+    let at = c.args.at in
+    let bytes = c.args.bytes.now in
+    let low = number-from 1 at (at + 1) bytes (omega arith) (omega arith) in
+    let high = number-one (at + 1) bytes (omega arith) in
+    omega (arith, c.from_le_bytes.ensures)

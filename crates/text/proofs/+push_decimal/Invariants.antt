@@ -1,5 +1,0 @@
--- a tenth of the number is less
-use Rattle.text.proofs.+push_decimal.Given as goal
-
-abbrev pub decreases-push_decimal : goal.decreases-push_decimal
-decreases-push_decimal l = l.n
