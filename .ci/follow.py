@@ -19,7 +19,7 @@ REFUSED = re.compile(r"refused, as it must be(?:: (?:note: )?(?:\./)?(\S+?:\d+:\
 
 def listed_crates():
     lines = (line.split("#")[0] for line in (ROOT / "crates.txt").read_text().splitlines())
-    return [line.split(":")[0].strip() for line in lines if line.strip()]
+    return [line.split(":")[0].split()[0] for line in lines if line.strip()]
 
 
 class Follower:

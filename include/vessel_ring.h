@@ -94,8 +94,8 @@ extern "C" {
 #define VESSEL_READINGS 24      /* of a row of it */
 #define VESSEL_LINE_ROOM 160    /* room for any line of a listing */
 #define VESSEL_TEXT 96          /* room for any text of a refusal, with the 0 behind it */
-#define VESSEL_STACK 18432         /* at most, by tools/stack.py: the listing 13,304, the dispatcher 9,736, a move 5,352, any other call 5,304 */
-#define VESSEL_STACK_TURNING 32768 /* 21,032 */
+#define VESSEL_STACK 18432         /* at most, by tools/stack.py: the listing 8,792, the dispatcher 8,120, any other call 1,464 */
+#define VESSEL_STACK_TURNING 32768 /* 15,192 */
 
 /* The refusals. Document 01 has the order in which each call tests them; docs/REFUSALS.md has it as a table. A call answers one as a byte;
    vessel_refusal_of makes it this type, so that the compiler says which of them a switch leaves out. */

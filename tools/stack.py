@@ -1,8 +1,8 @@
 #!/usr/bin/env python3
 """How much stack each call of the library takes: tools/stack.py [LIBRARY]
 
-The bound is worked out from the compiled code, by `objdump -d`: every frame is static, no function is called by pointer, and of the one
-that calls itself the source says how often. A function's depth is followed over its pushes and its changes of %rsp; at a call come the
+The bound is worked out from the compiled code, by `objdump -d`: every frame is static, no function is called by pointer, and of one
+that calls itself the source would have to say how often (`NESTED`). A function's depth is followed over its pushes and its changes of %rsp; at a call come the
 return address and what the callee takes. So the bound holds for every value, on whichever path. Counted is what lies below the caller's
 frame, the return address first; the answer's struct and a record handed over by value are the caller's own. memcpy, memmove and memset
 count with their return address alone: what they take besides is the C library's.
@@ -21,7 +21,7 @@ HEADER = ROOT / "include/vessel_ring.h"
 # what the header says of the call that it names; of any other it says VESSEL_STACK
 LIMITS = {"vessel_ring_to_hundredths": "VESSEL_STACK_TURNING"}
 OUTSIDE = {"memcpy", "memmove", "memset"}
-NESTED = {"text::push_decimal": 10}  # a call for each digit: by its contract at most ten
+NESTED = {}  # the functions that call themselves, and how often at most by the source: none
 WORD = 8
 
 FUNCTION = re.compile(r"^[0-9a-f]+ <(.+)>:$")

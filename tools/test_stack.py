@@ -4,6 +4,7 @@ import pathlib
 import subprocess
 import sys
 import unittest
+import unittest.mock
 
 import stack
 
@@ -59,7 +60,8 @@ class Bounds(unittest.TestCase):
 
     def test_a_function_that_calls_itself_so_often(self):
         lines = ["push   %rbx", "call   0 <text::push_decimal>", "pop    %rbx", "ret"]
-        self.assertEqual(self.takes(["jmp    1 <f> -> text::push_decimal"], **{"text::push_decimal": lines}), 8 + 9 * 16 + 8)
+        with unittest.mock.patch.dict(stack.NESTED, {"text::push_decimal": 10}):
+            self.assertEqual(self.takes(["jmp    1 <f> -> text::push_decimal"], **{"text::push_decimal": lines}), 8 + 9 * 16 + 8)
 
 
 class Refused(unittest.TestCase):
