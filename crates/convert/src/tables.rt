@@ -4,7 +4,7 @@
 ghost use Rattle.std.specs.Prelude.{◌≡◌};
 ghost use Rattle.batch.specs.Good.{every};
 ghost use Rattle.batch.specs.Sending.{in_tenths};
-ghost use Rattle.convert.specs.TurnedTable.{turn_table};
+ghost use Rattle.convert.specs.TurnedTable.{row_in_tenths, turn_table};
 ghost use Rattle.convert.specs.TablePass.{turned_cell, turned_row, turned_pass, judged};
 
 use batch::BatchNo;
@@ -29,16 +29,26 @@ fn turned_row(row: &Row) -> Row
     Row { readings, ..*row }
 }
 
-// Whether every cell is a temperature in tenths.
+// Whether every cell is a temperature in tenths. Nothing leaves the loop early, so the compiler tests many cells at once.
 fn all_in_tenths(cells: &[i16]) -> bool
     ensures { result ≡ every in_tenths cells.now }
 {
+    let mut all = true;
     for cell in cells {
-        if !in_tenths(*cell) {
-            return false;
-        }
+        all &= in_tenths(*cell);
     }
-    true
+    all
+}
+
+// Whether every cell of every row is one. All rows are read, whatever stands in any of them: include/vessel_ring.h says so of each call.
+fn table_in_tenths(table: &[Row]) -> bool
+    ensures { result ≡ every row_in_tenths table.now }
+{
+    let mut all = true;
+    for row in table {
+        all &= all_in_tenths(&row.readings);
+    }
+    all
 }
 
 // What `history` keeps of a pass over the table, of its rows as they are turned.
@@ -56,12 +66,7 @@ fn turned_pass(table: &[Row]) -> Search
 fn judged(table: &[Row]) -> Verdict
     ensures { result ≡ judged table.now }
 {
-    for row in table {
-        if !all_in_tenths(&row.readings) {
-            return Err(Refusal::UnsoundRing);
-        }
-    }
-    if !sound(turned_pass(table)) {
+    if !table_in_tenths(table) || !sound(turned_pass(table)) {
         return Err(Refusal::UnsoundRing);
     }
     Ok(())

@@ -1,12 +1,14 @@
 -- Commands, questions and answers in code, held against document 01: which ring call each command and each question is, and for each case
 -- of the answer its number and its values; from these, what a step that the code returns says, and what a run answers.
-use Rattle.std.specs.Prelude.{ℕ, ◌≡◌, Bool, true, false, List, [], ◌∷◌, Result, Ok, Err}
+use Rattle.std.specs.Prelude.{ℕ, ◌≡◌, Bool, true, false, cond, List, [], ◌∷◌, eqb, Result, Ok, Err}
 use Rattle.std.proofs.Math.Option.{Option}
 use Rattle.refusal.specs.declared.Refusal.{Refusal}
+use Rattle.refusal.specs.declared.Refusal.TheVariants.{UnsoundRing}
 use Rattle.refusal.specs.Number as Number
 use Rattle.refusal.specs.Number.{number_of}
 use Rattle.batch.specs.declared.BatchRecord.{BatchRecord}
 use Rattle.batch.specs.declared.sending.Fields.{Fields}
+use Rattle.batch.specs.Blank.{no_record}
 use Rattle.batch.specs.Sending.{record_from}
 use Rattle.command.specs.declared.Action.{Action}
 use Rattle.command.specs.declared.Action.TheVariants.{AddNode, AddChannel, Start, Receive, Send, Enter, Move, Withdraw}
@@ -68,6 +70,16 @@ is_refusal (Err r) = true
 abbrev pub delivered_in : Reply → Option Delivery
 delivered_in r = delivery_in (values_in r)
 
+-- the record that a reply tells: a delivery's; beside any other answer, a refusal too, it is blank
+abbrev pub event_record : Event → BatchRecord
+event_record done = no_record
+event_record (delivered k x) = x
+event_record (hops_are h) = no_record
+event_record (waiting_are w) = no_record
+
+abbrev pub record_told : Reply → BatchRecord
+record_told r = event_record (values_in r)
+
 -- the reply to an outcome: the one whose number and values are those of the outcome
 abbrev pub answer_of : Event → Answer
 answer_of done = Done
@@ -83,13 +95,14 @@ reply_of (accepted e s) = Ok (answer_of e)
 abbrev pub step_of : Ring → Outcome Ring → Step
 step_of ring o = record { ring = after ring o; reply = reply_of o }
 
--- What a returned step says: accepted, with its values and its ring, or refused.
-abbrev pub outcome_in : Reply → Ring → Outcome Ring
-outcome_in (Ok a) ring = accepted (event_in a) ring
-outcome_in (Err r) ring = refused r
+-- the refusal in a reply that is one; nothing asks for it where the number is 0
+abbrev pub refusal_in : Reply → Refusal
+refusal_in (Ok a) = UnsoundRing
+refusal_in (Err r) = r
 
+-- What a returned step says: answered without a refusal number it is accepted, with its values and its ring; else it is refused.
 abbrev pub outcome_of : Step → Outcome Ring
-outcome_of s = outcome_in s.reply s.ring
+outcome_of s = cond (eqb (number_in s.reply) 0) (accepted (values_in s.reply) s.ring) (refused (refusal_in s.reply))
 
 -- document 01's number and values for an outcome
 abbrev pub outcome_number : {S : Type 0} → Outcome S → ℕ

@@ -1,6 +1,6 @@
 -- The dispatcher of the ring in memory, which its contracts cite, and its answer in code; and what is promised of code that meets the
 -- contracts, in lists of calls with dispatcher calls among them.
-use Rattle.std.specs.Prelude.{ℕ, ◌≤◌, ◌≡◌, ◌≢◌, List, [], map, length, get_or, Result, Ok, Err}
+use Rattle.std.specs.Prelude.{ℕ, ◌≤◌, ◌≡◌, List, [], map, length, get_or, Result, Ok, Err}
 use Rattle.batch.specs.declared.BatchRecord.{BatchRecord}
 use Rattle.batch.specs.Blank.{no_record}
 use Rattle.network.specs.declared.Ring.{Ring}
@@ -38,6 +38,11 @@ abbrev pub answer_of : Dispatch Ring → Result Dispatched Refusal
 answer_of (not_run r) = Err r
 answer_of (ran rounds ds ring) = Ok (answered rounds ds)
 
+-- what an answer tells: its rounds and deliveries; a refusal none of either
+abbrev pub answered_in : Result Dispatched Refusal → Dispatched
+answered_in (Ok d) = d
+answered_in (Err r) = answered 0 []
+
 abbrev pub dispatch_step_of : Ring → Dispatch Ring → DispatchStep
 dispatch_step_of ring d = record { ring = after_dispatch ring d; dispatched = answer_of d }
 
@@ -66,10 +71,11 @@ module _ (code : Call → Ring → Step) (dispatcher : ℕ → Ring → Dispatch
     pub same-deliveries :
         deliveries_in d ≡ deliveries (returned code) (spelled sound_ring view (returned code) given ring) ring
 
-  -- refused, it changes nothing; a refusal tells no delivery
+  -- refused, it changes nothing and tells no round and no delivery
   pub record TurnsAway (given : ℕ) (ring : Ring) : Type 0 where
     pub ring-as-before : (dispatcher given ring).ring ≡ ring
     pub refusal-alone : (r : Refusal) × ((dispatcher given ring).dispatched ≡ Err r)
+    pub nothing-told : answered_in (dispatcher given ring).dispatched ≡ answered 0 []
 
   pub record DispatchPromised : Type 0 where
     pub as-singly : (given : ℕ) (ring : Ring) (d : Dispatched) → (dispatcher given ring).dispatched ≡ Ok d → AsSingly given ring d

@@ -2,12 +2,13 @@
 -- document 01's number and values: demand 1 and demand 3, if the code meets the contracts of the ring calls, which are demand 2.
 use Rattle.std.specs.Prelude.{◌≡◌, ◌≢◌, Err}
 use Rattle.refusal.specs.declared.Refusal.{Refusal}
+use Rattle.batch.specs.Blank.{no_record}
 use Rattle.network.specs.declared.Ring.{Ring}
 use Rattle.network.specs.declared.Step.{Step}
 use Rattle.network.specs.Calls.{Outcome}
 use Rattle.network.specs.Runs.{Call, after}
 use Rattle.network.specs.Layout.{ring_limits, view, fresh_ring, sound_ring, call_ring}
-use Rattle.network.specs.Answers.{number_in, step_of, outcome_of}
+use Rattle.network.specs.Answers.{number_in, record_told, step_of, outcome_of}
 use Rattle.network.specs.Demand.{RefusesUnsound, Safe, Demand3}
 
 module _ (code : Call → Ring → Step) where
@@ -22,10 +23,11 @@ module _ (code : Call → Ring → Step) where
   returned a ring = outcome_of (code a ring)
 
   -- A refusal answers its number alone and changes nothing: where the number is not 0, the ring that is returned is the ring that was
-  -- given, and the reply is the refusal.
+  -- given, the reply is the refusal, and the record beside it is blank.
   pub record ChangesNothing (a : Call) (ring : Ring) : Type 0 where
     pub ring-as-before : (code a ring).ring ≡ ring
     pub refusal-alone : (r : Refusal) × ((code a ring).reply ≡ Err r)
+    pub record-blank : record_told (code a ring).reply ≡ no_record
 
   abbrev pub RefusalLeaves : Type 0
   RefusalLeaves = (a : Call) (ring : Ring) → number_in (code a ring).reply ≢ 0 → ChangesNothing a ring

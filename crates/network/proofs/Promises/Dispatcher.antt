@@ -2,8 +2,7 @@
 -- promised (specs/Dispatcher): what it returns is what the definitions say of the same entries and moves called singly.
 use Prim.Native.Nat.{ℕ, ◌≤◌, ◌<◌}
 use mathlib.Core.Path.{◌≡◌, refl, sym, ap, subst, ◌∙◌}
-use mathlib.Core.Logic.{◌≢◌}
-use mathlib.Core.List.{List, []}
+use mathlib.Core.List.{List}
 use native.Mathlib.Omega.{arith}
 use lib.ListN.{length, get_or, get_or-map}
 use Rattle.refusal.specs.declared.Refusal.{Refusal}
@@ -20,7 +19,7 @@ use Rattle.network.specs.Runs.{Call, run}
 use Rattle.network.specs.Layout.{ring_limits, channel_room, view, fresh_ring, sound_ring, call_ring}
 use Rattle.network.specs.Dispatch.{Dispatch, not_run, ran, deliveries, rounds_made, spelled, DispatcherKeeps, ActsDemand3}
 use Rattle.network.specs.Promise.{MeetsContracts, returned}
-use Rattle.network.specs.Dispatcher.{dispatch_ring, filled, channels_of, records_of, answered, answer_of, dispatch_step_of, deliveries_in, TellsAll, MeetsDispatch, AsSingly, TurnsAway, DispatchPromised, DispatchSuffices}
+use Rattle.network.specs.Dispatcher.{dispatch_ring, filled, channels_of, records_of, answered, answer_of, dispatch_step_of, deliveries_in, TellsAll, MeetsDispatch, AsSingly, TurnsAway, DispatchPromised, DispatchSuffices, answered_in}
 use Rattle.network.proofs.Ground.Splits.{by-test}
 use Rattle.network.proofs.Memory.Rows.{get_d_tabulate, tabulate-is}
 use Rattle.network.proofs.Memory.Held.{sound-ring}
@@ -121,6 +120,7 @@ module _ (code : Call → Ring → Step) (dispatcher : ℕ → Ring → Dispatch
             ap (λ (s : DispatchStep). s.ring) is
             ∙ turned-away ring (dispatch_ring given ring) r (sym (ap (λ (s : DispatchStep). s.dispatched) is) ∙ told);
         refusal-alone = (r, told);
+        nothing-told = ap answered_in told;
       }
 
   promised : DispatchPromised code dispatcher

@@ -9,7 +9,7 @@ use Rattle.network.specs.declared.Step.{Step}
 use Rattle.network.specs.Calls.{done, delivered, hops_are, waiting_are, Outcome, refused, accepted}
 use Rattle.network.specs.Runs.{Call, after}
 use Rattle.network.specs.Layout.{ring_limits, view, fresh_ring, sound_ring, call_ring}
-use Rattle.network.specs.Answers.{number_in, step_of, outcome_of}
+use Rattle.network.specs.Answers.{number_in, record_told, step_of, outcome_of}
 use Rattle.network.specs.Demand.{RefusesUnsound, Safe, Demand3}
 use Rattle.network.specs.Promise.{MeetsContracts, returned, ChangesNothing, Promised, ContractsSuffice}
 use Rattle.network.proofs.Promises.Answers.{steps-keep}
@@ -34,6 +34,7 @@ module _ (code : Call → Ring → Step) (meets : MeetsContracts code) where
       record {
         ring-as-before = ap (λ s. s.ring) (meets a ring) ∙ kept.0;
         refusal-alone = (kept.1.0, ap (λ s. s.reply) (meets a ring) ∙ kept.1.1);
+        record-blank = ap record_told (ap (λ s. s.reply) (meets a ring) ∙ kept.1.1);
       }
 
   promised : Promised code
