@@ -128,7 +128,7 @@ module _ (given : ℕ) {ring : Ring} (h : CanGo ring 0) where
   abbrev handed : List Delivery
   handed = deliveries call_ring (calls given ring) ring
 
-  dispatches : dispatch_ring given ring ≡ ran (made given ring) handed (run call_ring (calls given ring) ring)
+  pub dispatches : dispatch_ring given ring ≡ ran (made given ring) handed (run call_ring (calls given ring) ring)
   unfolding dispatch_ring
   dispatches = rw (h.ok, running ring h.ok h.going)
 
@@ -153,7 +153,7 @@ module _ (given : ℕ) (ring : Ring) {r : Refusal} (told : Err r ≡ opening_of 
       let s = sound-ring ring ok in
       omega (arith, s.holds.node-count, (sound-started ring_limits (view ring) s.sound on).within.some-node)
 
-  turned-away : dispatch_ring given ring ≡ not_run r
+  pub turned-away : dispatch_ring given ring ≡ not_run r
   unfolding dispatch_ring
   turned-away =
       by-test (sound_ring ring)

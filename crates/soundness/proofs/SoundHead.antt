@@ -82,7 +82,7 @@ module _ (ring : Ring) (s : SoundRing ring) where
 
   -- nodes and channels of the ring, in memory and as they are read off
   module _ (p : ℕ) (l : p < node_room) where
-    node-fits :
+    pub node-fits :
         NodeFits (ltb p (nodes ring)) (begun ring) (get_or ring.head.capacity p 0) (get_or ring.head.used p 0)
         (get_or ring.head.waiting p 0) (get_or ring.head.marks p 0)
     node-fits =
@@ -111,7 +111,7 @@ module _ (ring : Ring) (s : SoundRing ring) where
         rw (le-ltb p (nodes ring) past) (rw e at h.capacity, rw e at h.used, rw e at h.waiting, rw e at h.mark))
 
   module _ (k : ℕ) (l : k < channel_room) where
-    channel-fits :
+    pub channel-fits :
         ChannelFits (ltb k (channels ring)) (begun ring) (nodes ring) (get_or ring.head.senders k 0) (get_or ring.head.receivers k 0)
         (get_or ring.head.phases k 0) (get_or ring.head.offered k 0)
     channel-fits =

@@ -49,7 +49,7 @@ reads-back =
     by_digits (λ n. read_on 0 (decimal n) ≡ n) (λ n h. rw (decimal-one n h) (omega arith))
     λ n h p. rw (decimal-more n h, read-last 0 (decimal (n / 10)) (n % 10), p) (omega arith)
 
-length_more : (n : ℕ) → 10 ≤ n → length (decimal n) ≡ length (decimal (n / 10)) + 1
+pub length_more : (n : ℕ) → 10 ≤ n → length (decimal n) ≡ length (decimal (n / 10)) + 1
 length_more n h = rw (decimal-more n h) (length-append (decimal (n / 10)) _)
 
 some-digit : (n : ℕ) → 0 < length (decimal n)

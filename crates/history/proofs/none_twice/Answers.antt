@@ -5,15 +5,6 @@ use Rattle.history.proofs.Places.{again, there-again, once-there, none-there}
 use Rattle.history.proofs.none_twice.Goals as goal
 use Rattle.history.proofs.none_twice.Goals.{else-batch-ne0-via-then-batch-ne0+else-contains, else-batch-ne0-via-else-batch-ne0}
 
-pub returns-then-contains : goal.returns-then-contains
-returns-then-contains c =
-    let bs = c.args.batches.now in
-    let i = c.loop-i.i in
-    let long : length bs ≡ 128 = search rules in
-    let inside : i < length bs = omega (arith, long) in
-    there-again bs i inside c.loop-i.invariant c.if-batch-ne0.true
-    (sym (again bs i inside long) ∙ sym c.contains.ensures.value ∙ c.if-contains.true)
-
 pub loop-i-preserved : goal.loop-i-preserved
 loop-i-preserved c =
     let bs = c.args.batches.now in
@@ -25,3 +16,12 @@ loop-i-preserved c =
           once-there bs i inside c.loop-i.invariant (sym (again bs i inside long) ∙ sym w.contains.ensures.value ∙ w.if-contains.false)
       | else-batch-ne0-via-else-batch-ne0 w ↦ none-there bs i inside c.loop-i.invariant (eq-eqb _ 0 w.if-batch-ne0.false)
     ]
+
+pub returns-then-contains : goal.returns-then-contains
+returns-then-contains c =
+    let bs = c.args.batches.now in
+    let i = c.loop-i.i in
+    let long : length bs ≡ 128 = search rules in
+    let inside : i < length bs = omega (arith, long) in
+    there-again bs i inside c.loop-i.invariant c.if-batch-ne0.true
+    (sym (again bs i inside long) ∙ sym c.contains.ensures.value ∙ c.if-contains.true)

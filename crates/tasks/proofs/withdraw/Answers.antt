@@ -9,6 +9,11 @@ use Rattle.updates.proofs.Reading.{channel-within}
 use Rattle.tasks.proofs.Withdrawals.{withdraw-quiet, receiver-within, line-within, withdraw-gone, can-leave, withdraw-done}
 use Rattle.tasks.proofs.withdraw.Goals as goal
 
+pub leave_line-requires : goal.leave_line-requires
+leave_line-requires c =
+    let h = channel-passed _ c.in_ok-open.ensures in
+    can-leave h c.if-ring-k-ne-ASKING.false (sym c.index_in-request.ensures ∙ c.in_ok-place.ensures.ok_part)
+
 pub returns-in_err-open : goal.returns-in_err-open
 returns-in_err-open c =
     turns-away (Runs.withdraw _) _ c.in_err-open.ensures (passed-on c.from_residual.ensures.1)
@@ -36,11 +41,6 @@ returns-in_err-place c =
     let said : ◌≡◌ {A = Result ℕ Refusal} (Err c.in_err-place.field-0.0) (Err RequestInBuffer) = c.in_err-place.ensures.value ∙ rw none refl in
     let told : c.in_err-place.field-0.0 ≡ RequestInBuffer = cc in
     refuses _ (withdraw-gone h c.if-ring-k-ne-ASKING.false (sym c.index_in-request.ensures ∙ none)) (passed-on c.from_residual-in_err-place.ensures.1 ∙ ap Err told)
-
-pub leave_line-requires : goal.leave_line-requires
-leave_line-requires c =
-    let h = channel-passed _ c.in_ok-open.ensures in
-    can-leave h c.if-ring-k-ne-ASKING.false (sym c.index_in-request.ensures ∙ c.in_ok-place.ensures.ok_part)
 
 pub returns : goal.returns
 returns c =

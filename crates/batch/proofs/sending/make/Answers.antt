@@ -6,6 +6,14 @@ use Rattle.batch.specs.Good.{send_verdict}
 use Rattle.batch.proofs.Temperatures.{sent-zero, sent-far, sent-made}
 use Rattle.batch.proofs.sending.make.Goals as goal
 
+pub returns : goal.returns
+returns c =
+    let fits : FitsSigned w16 c.args.fields.temperature = search rules in
+    let given : FitsSigned w16 c.in_ok-temperature.temperature = search rules in
+    rw (simp to_z-of_z at c.record_with-record.ensures)
+    (sent-made c.args.scale c.args.fields (sym (simp to_z-of_z at c.in_ok-temperature.ensures))
+    (ap send_verdict (sym (simp to_z-of_z at c.record_with-record.ensures)) ∙ sym c.in_ok-judge_sent.ensures.value))
+
 pub returns-then-fields-eq0 : goal.returns-then-fields-eq0
 returns-then-fields-eq0 c = sent-zero c.args.scale c.args.fields c.if-fields-eq0.true
 
@@ -23,11 +31,3 @@ returns-in_err-judge_sent c =
     rw (out.1, out.2)
     (sent-made c.args.scale c.args.fields (sym (simp to_z-of_z at c.in_ok-temperature.ensures))
     (ap send_verdict (sym (simp to_z-of_z at c.record_with-record.ensures)) ∙ sym c.in_err-judge_sent.ensures.value))
-
-pub returns : goal.returns
-returns c =
-    let fits : FitsSigned w16 c.args.fields.temperature = search rules in
-    let given : FitsSigned w16 c.in_ok-temperature.temperature = search rules in
-    rw (simp to_z-of_z at c.record_with-record.ensures)
-    (sent-made c.args.scale c.args.fields (sym (simp to_z-of_z at c.in_ok-temperature.ensures))
-    (ap send_verdict (sym (simp to_z-of_z at c.record_with-record.ensures)) ∙ sym c.in_ok-judge_sent.ensures.value))

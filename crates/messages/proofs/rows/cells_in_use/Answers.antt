@@ -4,6 +4,10 @@ use Rattle.messages.proofs.Loops.{summing_start, summing-turn, summing-end}
 use Rattle.messages.proofs.rows.cells_in_use.Goals as goal
 use Rattle.messages.proofs.rows.cells_in_use.Goals.{then-cell-ne0, else-cell-ne0}
 
+pub returns : goal.returns
+unfolding cells_in_use
+returns c = summing-end c.loop-cell.invariant (omega arith)
+
 pub loop-cell-init : goal.loop-cell-init
 loop-cell-init c = summing_start
 
@@ -11,7 +15,3 @@ pub loop-cell-preserved : goal.loop-cell-preserved
 loop-cell-preserved c =
     summing-turn c.loop-cell.invariant (omega arith) (omega arith)
     (elim c.if-cell-ne0.branch [ then-cell-ne0 w ↦ omega arith | else-cell-ne0 w ↦ omega arith ])
-
-pub returns : goal.returns
-unfolding cells_in_use
-returns c = summing-end c.loop-cell.invariant (omega arith)
